@@ -1,0 +1,61 @@
+-- Laws of a built list, and the turn of a loop that fills one.
+-- Assumes nothing.
+use mathlib.Core.Path.{_≡_, refl, sym, ap, ap₂, _∙_, subst}
+use mathlib.Core.List.{List, [], _∷_, _++_}
+use mathlib.Core.Logic.{⊎-elim}
+use Prim.Native.Nat.{ℕ, zero, suc, _+_, _≤_, _<_}
+use native.Mathlib.Nat.{le-refl, not-suc-le-zero}
+use native.Mathlib.Numerals.{add-one}
+use native.Mathlib.Omega.{arith}
+use lib.ListN.{length, getD, take, set, length-append, List·getD-append}
+use lib.Seq.{take-suc-set, getD-at, take-all, ext-getD, take-suc, getD-take}
+use Rattle.counting.specs.Count.{build}
+use Rattle.counting.proofs.Count.{lower, at-or-below}
+
+pub length-build : (n : ℕ) (f : ℕ → ℕ) → length (build n f) ≡ n
+unfolding build
+length-build zero f = refl
+length-build (suc n) f = length-append (build n f) (f n ∷ []) ∙ omega (arith, length-build n f)
+
+-- the element at k is f k
+pub getD-build : (n : ℕ) (f : ℕ → ℕ) (k d : ℕ) → k < n → getD (build n f) k d ≡ f k
+unfolding build
+getD-build zero f k d h = absurd (not-suc-le-zero h)
+getD-build (suc n) f k d h =
+    ⊎-elim
+    (λ e. getD-at (build n f) (f n) [] d k (length-build n f ∙ sym e) ∙ ap f (sym e))
+    (λ b. List·getD-append (build n f) (f n ∷ []) d k (omega (arith, length-build n f)) ∙ getD-build n f k d b)
+    (at-or-below k n h)
+
+pub build-ext : (n : ℕ) (f g : ℕ → ℕ) → ((k : ℕ) → k < n → f k ≡ g k) → build n f ≡ build n g
+unfolding build
+build-ext zero f g h = refl
+build-ext (suc n) f g h = ap₂ (λ (xs : List ℕ) (x : ℕ). xs ++ (x ∷ [])) (build-ext n f g (lower n h)) (h n (le-refl _))
+
+-- a list is built from its own elements
+pub build-getD : (xs : List ℕ) → build (length xs) (λ k. getD xs k 0) ≡ xs
+build-getD xs =
+    ext-getD 0 (build (length xs) (λ k. getD xs k 0)) xs (length-build (length xs) (λ k. getD xs k 0))
+    (λ k h. getD-build (length xs) (λ k. getD xs k 0) k 0 (omega (arith, length-build (length xs) (λ k. getD xs k 0))))
+
+-- a list that agrees with f at each of its n places
+pub built : (n : ℕ) (f : ℕ → ℕ) (xs : List ℕ) → length xs ≡ n → ((k : ℕ) → k < n → getD xs k 0 ≡ f k) → xs ≡ build n f
+built n f xs e h =
+    ext-getD 0 xs (build n f) (e ∙ sym (length-build n f))
+    (λ k l. h k (omega arith) ∙ sym (getD-build n f k 0 (omega arith)))
+
+-- a fill of one more place, which the code counts by n + 1
+pub fill : (n : ℕ) (f : ℕ → ℕ) (xs : List ℕ) (v : ℕ) → n < length xs → take n xs ≡ build n f → v ≡ f n →
+    take (n + 1) (set xs n v) ≡ build (n + 1) f
+unfolding build
+fill n f xs v l e h =
+    rw add-one (take-suc-set xs n v l ∙ ap₂ (λ (ys : List ℕ) (y : ℕ). ys ++ (y ∷ [])) e h)
+
+-- a filled list, where every place is filled
+pub filled : (n : ℕ) (f : ℕ → ℕ) (xs : List ℕ) → length xs ≡ n → take n xs ≡ build n f → xs ≡ build n f
+filled n f xs e h = sym (take-all n xs (omega arith)) ∙ h
+
+-- an element of the filled front
+pub filled-at : (n : ℕ) (f : ℕ → ℕ) (xs : List ℕ) → take n xs ≡ build n f → (k : ℕ) → k < n → getD xs k 0 ≡ f k
+filled-at n f xs h k l =
+    sym (getD-take n xs k 0 l) ∙ ap (λ (ys : List ℕ). getD ys k 0) h ∙ getD-build n f k 0 l

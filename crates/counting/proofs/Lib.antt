@@ -1,0 +1,5 @@
+pub mod Bools
+pub mod Build
+pub mod Count
+pub mod Most
+pub mod Sets

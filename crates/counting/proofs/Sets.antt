@@ -1,0 +1,92 @@
+-- Sets of boxes in one number: the members of a set that was built from a test, and of a set within a bound.
+-- Assumes nothing.
+use mathlib.Core.Path.{_≡_, refl, sym, ap, ap₂, _∙_, subst}
+use mathlib.Core.Bool.{Bool, true, false, cond}
+use mathlib.Core.Logic.{⊎-elim}
+use Prim.Native.Nat.{ℕ, zero, suc, _+_, _-_, _*_, _/_, _%_, _^_, _≤_, _<_}
+use native.Mathlib.Nat.{le-refl, not-suc-le-zero, div-eq-of-lt, lt-of-lt-of-le, add-comm, mul-comm, mul-assoc, add-zero, zero-mul, one-mul, add-mul-div-right, add-mul-mod-self-right}
+use native.Mathlib.Numerals.{add-one}
+use native.Mathlib.Omega.{arith}
+use lib.Dec.{eqb}
+use lib.Pow.{pow-pos, pow-mono, pow-add, high}
+use borrow.Author.Tests.{ne-eqb, eq-eqb}
+use Rattle.counting.specs.Count.{sum}
+use Rattle.counting.specs.Sets.{member, setOf}
+use Rattle.counting.proofs.Bools.{never}
+use Rattle.counting.proofs.Count.{lower, at-or-below, sum-ext}
+
+double : (n : ℕ) → 2 ^ suc n ≡ 2 ^ n + 2 ^ n
+double n = ap (λ (m : ℕ). 2 ^ m) (sym (add-one n)) ∙ pow-add 2 n 1 ∙ omega arith
+
+pub setOf-ext : (n : ℕ) (p q : ℕ → Bool) → ((k : ℕ) → k < n → p k ≡ q k) → setOf n p ≡ setOf n q
+unfolding setOf
+setOf-ext n p q h =
+    sum-ext n (λ k. cond (p k) (2 ^ k) 0) (λ k. cond (q k) (2 ^ k) 0) (λ k l. ap (λ (b : Bool). cond b (2 ^ k) 0) (h k l))
+
+-- a set of boxes below n is below 2 ^ n
+pub setOf-lt : (n : ℕ) (p : ℕ → Bool) → setOf n p < 2 ^ n
+unfolding setOf sum
+setOf-lt zero p = pow-pos 0
+setOf-lt (suc n) p = go (p n) (setOf-lt n p)
+  where
+    go : (b : Bool) → setOf n p < 2 ^ n → setOf n p + cond b (2 ^ n) 0 < 2 ^ suc n
+    go true h = omega (arith, double n)
+    go false h = omega (arith, double n)
+
+bit : Bool → ℕ
+bit b = cond b 1 0
+
+as-bit : (b : Bool) (m : ℕ) → cond b m 0 ≡ bit b * m
+unfolding bit
+as-bit true m = sym (one-mul m)
+as-bit false m = sym (zero-mul m)
+
+is-bit : (b : Bool) → eqb (bit b % 2) 1 ≡ b
+unfolding bit
+is-bit true = refl
+is-bit false = refl
+
+-- a bit at place n or above leaves the bits below as they are
+keeps : (s b n k : ℕ) → k < n → (s + b * 2 ^ n) / 2 ^ k % 2 ≡ s / 2 ^ k % 2
+keeps s b n k h =
+    ap (λ (m : ℕ). (s + m) / 2 ^ k % 2) split
+    ∙ ap (λ (m : ℕ). m % 2) (add-mul-div-right s (b * 2 ^ (n - suc k) * 2) (pow-pos k))
+    ∙ add-mul-mod-self-right (s / 2 ^ k) (b * 2 ^ (n - suc k)) 2
+  where
+    above : n ≡ n - suc k + 1 + k
+    above = omega arith
+    split : b * 2 ^ n ≡ b * 2 ^ (n - suc k) * 2 * 2 ^ k
+    split =
+        ap (λ (m : ℕ). b * 2 ^ m) above
+        ∙ ap (λ (m : ℕ). b * m) (pow-add 2 (n - suc k + 1) k ∙ ap (λ (m : ℕ). m * 2 ^ k) (pow-add 2 (n - suc k) 1))
+        ∙ sym (mul-assoc b (2 ^ (n - suc k) * 2) (2 ^ k))
+        ∙ ap (λ (m : ℕ). m * 2 ^ k) (sym (mul-assoc b (2 ^ (n - suc k)) 2))
+
+-- the test at k is the bit at k
+pub member-setOf : (n : ℕ) (p : ℕ → Bool) (k : ℕ) → k < n → member (setOf n p) k ≡ p k
+unfolding setOf sum member
+member-setOf zero p k h = absurd (not-suc-le-zero h)
+member-setOf (suc n) p k h =
+    ap (λ (m : ℕ). eqb ((setOf n p + m) / 2 ^ k % 2) 1) (as-bit (p n) (2 ^ n))
+    ∙ ⊎-elim
+    (λ e. top (sym e))
+    (λ b. ap (λ (m : ℕ). eqb m 1) (keeps (setOf n p) (bit (p n)) n k b) ∙ member-setOf n p k b)
+    (at-or-below k n h)
+  where
+    at-top : eqb ((setOf n p + bit (p n) * 2 ^ n) / 2 ^ n % 2) 1 ≡ p n
+    at-top =
+        ap (λ (m : ℕ). eqb (m % 2) 1)
+        (ap (λ (m : ℕ). m / 2 ^ n) (add-comm (setOf n p) (bit (p n) * 2 ^ n)) ∙ high (bit (p n)) n (setOf-lt n p))
+        ∙ is-bit (p n)
+    top : n ≡ k → eqb ((setOf n p + bit (p n) * 2 ^ n) / 2 ^ k % 2) 1 ≡ p k
+    top e = subst (λ (m : ℕ). eqb ((setOf n p + bit (p n) * 2 ^ n) / 2 ^ m % 2) 1 ≡ p m) e at-top
+
+-- a set within n has no member at n or above
+pub member-above : (n s k : ℕ) → s < 2 ^ n → n ≤ k → member s k ≡ false
+unfolding member
+member-above n s k h l =
+    rw (div-eq-of-lt (lt-of-lt-of-le h (pow-mono l))) refl
+
+-- the empty set has no member
+pub member-empty : (k : ℕ) → member 0 k ≡ false
+member-empty k = member-above 0 0 k (pow-pos 0) (omega arith)

@@ -1,0 +1,4 @@
+pub mod Count
+pub mod Most
+pub mod Sets
+pub mod Refuse

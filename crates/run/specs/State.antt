@@ -1,0 +1,93 @@
+-- The start, the iteration with its refusals, and a run of several tables.
+use Prim.Native.Nat.{ℕ, zero, suc, _+_, _*_}
+use mathlib.Core.Bool.{Bool, cond, not, _&&_, _||_}
+use mathlib.Core.List.{List, [], _∷_}
+use lib.Dec.{eqb, leb, ltb}
+use lib.ListN.{length, getD, replicate}
+use Rattle.counting.specs.Count.{any, build}
+use Rattle.counting.specs.Sets.{member}
+use Rattle.counting.specs.Refuse.{Refusal, firstOf}
+use Rattle.counting.specs.Refuse.Refusal.{refuse}
+use Rattle.sizes.specs.Sizes.{outside, tooMany, stray, tableRows}
+use Rattle.gradecast.specs.Steps.{sound}
+use Rattle.run.specs.declared.Run.{Run}
+use Rattle.run.specs.declared.Next.{Next}
+use Rattle.run.specs.Iteration.{nextRun}
+
+-- refusal 9: a sound box's row is 0
+unfoldable pub soundZero : ℕ → ℕ → List ℕ → Bool
+soundZero n faulty rows = any n (λ k. sound faulty k && eqb (getD rows k 0) 0)
+
+-- the places of a start that hold a row: sound boxes below n
+unfoldable pub startRow : ℕ → ℕ → List ℕ → ℕ → ℕ
+startRow n faulty rows k = cond (ltb k n && sound faulty k) (getD rows k 0) 0
+
+unfoldable pub zeros : Run
+zeros = record { n = 0; t = 0; faulty = 0; done = 0; sent = 0; rows = replicate 13 0; lists = replicate 13 0 }
+
+unfoldable pub startRefusal : ℕ → ℕ → ℕ → List ℕ → ℕ
+startRefusal n t faulty rows =
+    firstOf
+    (refuse 4 (outside n) ∷
+    refuse 5 (tooMany n t) ∷
+    refuse 6 (stray n faulty) ∷
+    refuse 11 (not (eqb (length rows) n)) ∷
+    refuse 9 (soundZero n faulty rows) ∷
+    [])
+
+-- the state at the start: rows of faulty boxes stand as 0, lists are empty
+unfoldable pub startRun : ℕ → ℕ → ℕ → List ℕ → Run
+startRun n t faulty rows =
+    record {
+    n = n;
+    t = t;
+    faulty = faulty;
+    done = 0;
+    sent = 0;
+    rows = build 13 (startRow n faulty rows);
+    lists = replicate 13 0
+    }
+
+-- a refused start gives a state of zeros
+unfoldable pub startReply : ℕ → ℕ → ℕ → List ℕ → Next
+startReply n t faulty rows =
+    record {
+    refusal = startRefusal n t faulty rows;
+    run = cond (eqb (startRefusal n t faulty rows) 0) (startRun n t faulty rows) zeros
+    }
+
+-- refusal 14: a non-zero row or list in a faulty or unused place, or a list bit at place n or above
+unfoldable pub badPlace : Run → ℕ → Bool
+badPlace s k =
+    cond (ltb k (s .n) && sound (s .faulty) k)
+    (stray (s .n) (getD (s .lists) k 0))
+    (not (eqb (getD (s .rows) k 0) 0) || not (eqb (getD (s .lists) k 0) 0))
+
+-- refusal 14: more messages than iterations done times the table's rows
+unfoldable pub tooManySent : Run → Bool
+tooManySent s = ltb (s .done * tableRows (s .n)) (s .sent)
+
+unfoldable pub iterateRefusal : Run → List ℕ → ℕ
+iterateRefusal s table =
+    firstOf
+    (refuse 4 (outside (s .n)) ∷
+    refuse 5 (tooMany (s .n) (s .t)) ∷
+    refuse 6 (stray (s .n) (s .faulty)) ∷
+    refuse 9 (soundZero (s .n) (s .faulty) (s .rows)) ∷
+    refuse 11 (not (eqb (length table) (tableRows (s .n)))) ∷
+    refuse 12 (ltb (s .t) (s .done)) ∷
+    refuse 14 (any 13 (badPlace s) || tooManySent s) ∷
+    [])
+
+-- a refused iteration returns the state as it came
+unfoldable pub iterateReply : Run → List ℕ → Next
+iterateReply s table =
+    record {
+    refusal = iterateRefusal s table;
+    run = cond (eqb (iterateRefusal s table) 0) (nextRun s table) s
+    }
+
+-- a run of several tables: the reply after the first m of them
+unfoldable pub after : Next → (ℕ → List ℕ) → ℕ → Next
+after first tables zero = first
+after first tables (suc m) = iterateReply (after first tables m .run) (tables m)

@@ -1,0 +1,94 @@
+-- What the tests for refusals 4, 5 and 6 say, and the rule of a table by n: one computed test, and the law that turns it into
+-- the formula at every n.
+-- Assumes nothing.
+use mathlib.Core.Path.{_≡_, refl, sym, ap, _∙_}
+use mathlib.Core.Bool.{Bool, true, false, not, cond, _||_}
+use mathlib.Core.List.{List}
+use Prim.Native.Nat.{ℕ, _+_, _-_, _*_, _/_, _^_, _≤_, _<_}
+use native.Mathlib.Omega.{arith}
+use lib.Dec.{eqb, leb, ltb}
+use lib.ListN.{getD}
+use borrow.Author.Tests.{lt-ltb, le-ltb, le-leb, lt-leb, ltb-false, leb-false, eqb-true}
+use Rattle.counting.specs.Count.{any}
+use Rattle.counting.proofs.Count.{any-none}
+use Rattle.counting.proofs.Bools.{cond-true, cond-false, or-none, or-true-left, or-true-right, or-false-left, or-false-right, not-false}
+use Rattle.sizes.specs.Sizes.{outside, tooMany, stray, largestT, tableRows, byN}
+
+-- refusal 4, both ways
+pub inside : (n : ℕ) → 1 ≤ n → n ≤ 13 → outside n ≡ false
+unfolding outside
+inside n low high = or-none (le-ltb n 1 low) (le-ltb 13 n high)
+
+pub outside-low : (n : ℕ) → n < 1 → outside n ≡ true
+unfolding outside
+outside-low n h = or-true-left (ltb 13 n) (lt-ltb n 1 h)
+
+pub outside-high : (n : ℕ) → 13 < n → outside n ≡ true
+unfolding outside
+outside-high n h = or-true-right (ltb n 1) (lt-ltb 13 n h)
+
+pub inside-low : (n : ℕ) → outside n ≡ false → 1 ≤ n
+unfolding outside
+inside-low n h = ltb-false n 1 (or-false-left (ltb n 1) (ltb 13 n) h)
+
+pub inside-high : (n : ℕ) → outside n ≡ false → n ≤ 13
+unfolding outside
+inside-high n h = ltb-false 13 n (or-false-right (ltb n 1) (ltb 13 n) h)
+
+-- refusal 5, both ways
+pub tolerated : (n t : ℕ) → 3 * t < n → tooMany n t ≡ false
+unfolding tooMany
+tolerated n t h = lt-leb n (3 * t) h
+
+pub not-tolerated : (n t : ℕ) → n ≤ 3 * t → tooMany n t ≡ true
+unfolding tooMany
+not-tolerated n t h = le-leb n (3 * t) h
+
+pub tolerated-lt : (n t : ℕ) → tooMany n t ≡ false → 3 * t < n
+unfolding tooMany
+tolerated-lt n t h = leb-false n (3 * t) h
+
+-- refusal 6: what a set within n is
+pub within-lt : (n set : ℕ) → stray n set ≡ false → set < 2 ^ n
+unfolding stray
+within-lt n set h = leb-false (2 ^ n) set h
+
+pub lt-within : (n set : ℕ) → set < 2 ^ n → stray n set ≡ false
+unfolding stray
+lt-within n set h = lt-leb (2 ^ n) set h
+
+pub not-within : (n set : ℕ) → 2 ^ n ≤ set → stray n set ≡ true
+unfolding stray
+not-within n set h = le-leb (2 ^ n) set h
+
+-- outside 1 to 13 the tables by n give 0
+pub by-n-outside : (formula : ℕ → ℕ) (n : ℕ) → outside n ≡ true → byN formula n ≡ 0
+unfolding byN
+by-n-outside formula n h = cond-true 0 (formula n) h
+
+pub by-n-inside : (formula : ℕ → ℕ) (n : ℕ) → outside n ≡ false → byN formula n ≡ formula n
+unfolding byN
+by-n-inside formula n h = cond-false 0 (formula n) h
+
+-- does a table of 13 numbers differ from the formula at place k?
+abbrev pub wrong : List ℕ → (ℕ → ℕ) → ℕ → Bool
+wrong table formula k = not (eqb (getD table k 0) (formula (k + 1)))
+
+-- where it differs nowhere, it is the formula at every n
+pub table-rule : (table : List ℕ) (formula : ℕ → ℕ) → any 13 (wrong table formula) ≡ false →
+    (n : ℕ) → 1 ≤ n → n ≤ 13 → getD table (n - 1) 0 ≡ byN formula n
+table-rule table formula test n low high =
+    let same : n - 1 + 1 ≡ n = omega arith in
+    eqb-true (getD table (n - 1) 0) (formula (n - 1 + 1))
+    (not-false (eqb (getD table (n - 1) 0) (formula (n - 1 + 1))) (any-none 13 (wrong table formula) test (n - 1) (omega arith)))
+    ∙ ap formula same
+    ∙ sym (by-n-inside formula n (inside n low high))
+
+-- the formula gives the largest t: it is tolerated, and no larger one is
+pub largest-tolerated : (n : ℕ) → 1 ≤ n → 3 * largestT n < n
+unfolding largestT
+largest-tolerated n h = omega arith
+
+pub none-larger : (n t : ℕ) → 3 * t < n → t ≤ largestT n
+unfolding largestT
+none-larger n t h = omega arith

@@ -1,0 +1,42 @@
+-- `sizes::table_rows` meets its contract: inside 1 to 13 it reads the table, whose rule one computed test gives; outside both
+-- sides are 0. Assumes nothing.
+use mathlib.Core.Path.{_≡_, refl, sym}
+use mathlib.Core.Bool.{false}
+use mathlib.Core.List.{List, [], _∷_}
+use Prim.Native.Nat.{ℕ}
+use borrow.Author.Needs.{needs}
+use Rattle.counting.specs.Count.{any}
+use Rattle.sizes.specs.Sizes.{tableRows}
+use Rattle.sizes.proofs.Laws.{outside-low, outside-high, by-n-outside, table-rule, wrong}
+use Rattle.sizes.proofs.table_rows.Statement.{statement}
+use Rattle.sizes.proofs.table_rows.Tie as tie
+
+numbers : List ℕ
+numbers = 3 ∷ 20 ∷ 63 ∷ 144 ∷ 275 ∷ 468 ∷ 735 ∷ 1088 ∷ 1539 ∷ 2100 ∷ 2783 ∷ 3600 ∷ 4563 ∷ []
+
+right : any 13 (wrong numbers tableRows) ≡ false
+unfolding numbers any tableRows
+right = refl
+
+cast-result : tie.Need-cast-result
+cast-result c = search needs
+
+mul-result : tie.Need-mul-result
+mul-result c = search needs
+
+array-read-result : tie.Need-array-read-result
+array-read-result c = search needs
+
+returns : tie.Need-returns
+unfolding numbers
+returns c = table-rule numbers tableRows right (c .before .before .args .n) (search needs) (search needs)
+
+returns-2 : tie.Need-returns-2
+returns-2 c = sym (by-n-outside tableRows (c .before .args .n) (outside-low (c .before .args .n) (search needs)))
+
+returns-3 : tie.Need-returns-3
+returns-3 c =
+    sym (by-n-outside tableRows (c .before .before .args .n) (outside-high (c .before .before .args .n) (search needs)))
+
+pub table-rows-spec : {M : Type 1} → statement M
+table-rows-spec = tie.close (tie.spec cast-result mul-result array-read-result returns returns-2 returns-3)

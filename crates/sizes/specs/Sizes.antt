@@ -1,0 +1,28 @@
+-- The numbers that document 01 allows: boxes, the tolerated, a set of boxes, the rows of a table. Boxes count from 0 here.
+use Prim.Native.Nat.{ℕ, _+_, _-_, _*_, _/_, _^_}
+use mathlib.Core.Bool.{Bool, cond, _||_}
+use lib.Dec.{leb, ltb}
+
+-- refusal 4: n outside 1 to 13
+unfoldable pub outside : ℕ → Bool
+outside n = ltb n 1 || ltb 13 n
+
+-- refusal 5: 3t not less than n
+unfoldable pub tooMany : ℕ → ℕ → Bool
+tooMany n t = leb n (3 * t)
+
+-- refusal 6: the set has a bit at place n or above
+unfoldable pub stray : ℕ → ℕ → Bool
+stray n set = leb (2 ^ n) set
+
+-- the largest t with 3t less than n
+unfoldable pub largestT : ℕ → ℕ
+largestT n = (n - 1) / 3
+
+-- rows in one iteration's table: n² for step 1, n³ for step 2 and n³ for step 3
+unfoldable pub tableRows : ℕ → ℕ
+tableRows n = n * n + 2 * (n * n * n)
+
+-- what the tables by n give: the formula for n from 1 to 13, and 0 outside
+unfoldable pub byN : (ℕ → ℕ) → ℕ → ℕ
+byN formula n = cond (outside n) 0 (formula n)
