@@ -2,4 +2,5 @@ pub mod Bools
 pub mod Build
 pub mod Count
 pub mod Most
+pub mod Refuse
 pub mod Sets
