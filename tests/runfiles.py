@@ -84,6 +84,17 @@ def copy_faulty(run, source, target):
             target.rows[at:at + length] = source.rows[at:at + length]
 
 
+def case_s_table():
+    """The first iteration of case S: box 4 speaks for itself as leader only."""
+    table = Table(4)
+    for receiver, row in ((0, 20), (1, 20), (2, 99)):
+        table.first(3, receiver, row)
+    for receiver, row in ((0, 20), (1, 99)):
+        table.second(3, receiver, 3, row)
+    table.third(3, 1, 3, 20)
+    return table
+
+
 # The rules, as far as a liar needs them.
 
 def most_often(rows):
