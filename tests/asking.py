@@ -321,8 +321,8 @@ class TableBytes:
 
     def break_8(self, rng):
         whole = len(self.data)
-        count = rng.choice([c for c in (0, whole - 1, whole + 1, whole - 8, whole + 8, whole // 8, 8 * table_rows(PLACES))
-                            if c != whole])
+        counts = 0, whole - 1, whole + 1, whole - 8, whole + 8, whole // 8, 8 * table_rows(PLACES)
+        count = rng.choice([c for c in counts if c != whole])
         self.data = (self.data + bytes(count))[:count]
 
     def break_4(self, rng):
@@ -337,7 +337,7 @@ CALLS = {"vote": Vote, "grade": Grade, "choice": Choice, "start": Start, "iterat
 
 
 def broken(rng, name, damages):
-    """A request with these damages done. The later one in the order is done first: an earlier one may hide its field."""
+    """A request with these damages done, the later one first: it may need a field that the earlier one spoils."""
     arguments = CALLS[name](rng)
     for _, how in reversed(damages):
         getattr(arguments, how)(rng)
@@ -383,8 +383,8 @@ def wild_iteration(rng):
 def wild_heading(rng):
     """A heading of which every byte is drawn for itself, mostly from those that mean something."""
     lead = [rng.choice(b"HNB\0") if rng.random() < 0.02 else byte for byte in b"HNB"]
-    lead += [rng.random() < 0.02, 1, rng.randrange(15), rng.choice((0, 0, 1, 2, 3, 4, 5, 255)), rng.choice((0, 0, 1, 255)),
-             rng.randrange(256)]
+    lead += [rng.random() < 0.02, 1, rng.randrange(15), rng.choice((0, 0, 1, 2, 3, 4, 5, 255))]
+    lead += [rng.choice((0, 0, 1, 255)), rng.randrange(256)]
     rows = [rng.choice((0, 1)) for _ in range(rng.randrange(150))]
     data = bytes(lead + rows)[:rng.choice((255, 255, rng.randrange(160)))]
     return Request(bytes((6, len(data), rng.randrange(20))) + data, "heading, wild bytes")
@@ -461,7 +461,8 @@ def big_tables(rng):
         rows = table_rows(n)
         data = rng.randbytes(8 * rows)
         for lent in (rows, rows - 1, 5000):
-            yield Request(struct.pack(">BBHH", 7, n, len(data), lent) + data, "table of every n", 10 if lent < rows else 0)
+            asked = struct.pack(">BBHH", 7, n, len(data), lent) + data
+            yield Request(asked, "table of every n", 10 if lent < rows else 0)
 
 
 def ended_streams(rng):

@@ -447,7 +447,7 @@ def cut_heading(rng, run, data):
 def cut_table(rng, run, data):
     heading, table = 9 + 8 * run.n, 8 * table_rows(run.n)
     edge = heading + table * rng.randrange(run.t + 1)
-    return data[:rng.choice((edge, edge + 1, edge + 8, edge + table - 1, edge + table - 8, edge + rng.randrange(table)))]
+    return data[:edge + rng.choice((0, 1, 8, table - 1, table - 8, rng.randrange(table)))]
 
 
 def add_bytes(rng, run, data):
@@ -456,7 +456,8 @@ def add_bytes(rng, run, data):
 
 # In the order of the refusals, with the number each gives. A file's length can be damaged once only.
 DAMAGES = (("1", cut_mark), ("2", hurt_mark), ("3", hurt_version), ("4", hurt_n), ("5", hurt_t), ("6", hurt_faulty),
-           ("8 in the heading", cut_heading), ("9", hurt_row), ("8 in a table", cut_table), ("8 past the end", add_bytes))
+           ("8 in the heading", cut_heading), ("9", hurt_row), ("8 in a table", cut_table),
+           ("8 past the end", add_bytes))
 OF_LENGTH = (cut_mark, cut_heading, cut_table, add_bytes)
 
 
