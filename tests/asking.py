@@ -206,17 +206,18 @@ class Iteration:
         return rng.choice(sorted(self.boxes))
 
     def unused_place(self, rng):
-        """A place above n; a full state has none, so it is made smaller."""
-        if self.n == PLACES:
+        """A place above n. A full state has none, so another state, with new rows and lists, takes its place."""
+        while self.n == PLACES:
             self.__init__(rng)
-            return self.unused_place(rng)
         return rng.randrange(self.n, PLACES)
 
     def break_unused_row(self, rng):
-        self.rows[self.unused_place(rng)] = rng.choice((1, TOP))
+        at = self.unused_place(rng)
+        self.rows[at] = rng.choice((1, TOP))
 
     def break_unused_list(self, rng):
-        self.lists[self.unused_place(rng)] = rng.choice((1, 1 << 15))
+        at = self.unused_place(rng)
+        self.lists[at] = rng.choice((1, 1 << 15))
 
     def break_list_bit(self, rng):
         self.lists[self.sound_place(rng)] |= 1 << rng.randrange(self.n, 16)
