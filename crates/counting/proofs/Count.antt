@@ -95,8 +95,8 @@ count-le zero p = (le-refl _)
 count-le (suc n) p = omega (arith, count-le n p, one-le (p n))
 
 -- the counter of a loop is at most the turns made
-pub count-turn-le : (n : ℕ) (p : ℕ → Bool) {c r : ℕ} (b : Bool) → c ≡ count n p → r ≡ cond b 1 0 → c + r ≤ n + 1
-count-turn-le n p b h e = omega (arith, h, e, count-le n p, one-le b)
+pub count-turn-le : (n : ℕ) (p : ℕ → Bool) {c r : ℕ} → c ≡ count n p → r ≡ cond (p n) 1 0 → c + r ≤ n + 1
+count-turn-le n p h e = omega (arith, h, e, count-le n p, one-le (p n))
 
 inclusion : (a b : Bool) → cond a 1 0 + cond b 1 0 ≡ cond (a || b) 1 0 + cond (a && b) 1 0
 inclusion true true = refl

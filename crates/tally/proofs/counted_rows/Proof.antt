@@ -1,59 +1,62 @@
+-- `tally::counted_rows` meets its contract: after i turns the first i places hold the counted rows of leaders below i. What is left of the
+-- length falls. Assumes nothing.
+use mathlib.Core.Path.{_≡_, refl, _∙_}
+use mathlib.Core.Bool.{cond}
+use Prim.Native.Nat.{_≤_, _-_}
+use native.Mathlib.Omega.{arith}
+use lib.Dec.{eqb}
+use lib.ListN.{length, getD, take, length-set}
+use Rattle.counting.specs.Count.{build}
+use Rattle.counting.proofs.Build.{fill}
+use Rattle.tally.specs.Tally.{counted}
 use borrow.Author.Needs.{needs}
 use Rattle.tally.proofs.counted_rows.Statement.{statement}
 use Rattle.tally.proofs.counted_rows.Tie as tie
-use Rattle.tally.proofs.counted_rows.Reads as reads
-use Rattle.tally.proofs.counted_rows.Lts as lts
-use Rattle.tally.proofs.counted_row.Reads as counted-row-reads
 
 abbrev Inv-loop : tie.InvT-loop
-Inv-loop rows confidences out₀ i₀ out i = ?
+Inv-loop rows confidences out₀ i₀ out i = (i ≤ length rows) × (length out ≡ 13) × (take i out ≡ build i (λ k. cond (eqb (getD confidences k 0) 0) 0 (getD rows k 0)))
 
 abbrev μ-loop : tie.MeasureT-loop
-μ-loop rows confidences out₀ i₀ out i = ?
+μ-loop rows confidences out₀ i₀ out i = length rows - i
 
--- src/lib.rt:227:5
 loop-holds : tie.Need-loop-holds Inv-loop μ-loop
-loop-holds c = search needs
+unfolding build
+loop-holds c = (search needs, refl, refl)
 
--- src/lib.rt:228:30
 mul-counted-row : tie.Need-mul-counted-row Inv-loop μ-loop
 mul-counted-row c = search needs
 
--- src/lib.rt:228:30
 shared-slice-read-counted-row : tie.Need-shared-slice-read-counted-row Inv-loop μ-loop
 shared-slice-read-counted-row c = search needs
 
--- src/lib.rt:228:39
 shared-slice-read-counted-row-2 : tie.Need-shared-slice-read-counted-row-2 Inv-loop μ-loop
 shared-slice-read-counted-row-2 c = search needs
 
--- src/lib.rt:228:18
 counted-row-requires : tie.Need-counted-row-requires Inv-loop μ-loop
 counted-row-requires c κs = search needs
 
--- src/lib.rt:228:9
 mul-out : tie.Need-mul-out Inv-loop μ-loop
 mul-out c = search needs
 
--- src/lib.rt:228:9
 array-write-out : tie.Need-array-write-out Inv-loop μ-loop
-array-write-out c = search needs
+array-write-out c = omega (arith, c .before .before .before .before .before .before .before .pre .0)
 
--- src/lib.rt:229:9
 add-i : tie.Need-add-i Inv-loop μ-loop
 add-i c = search needs
 
--- src/lib.rt:227:5
 loop-less : tie.Need-loop-less Inv-loop μ-loop
 loop-less c = search needs
 
--- src/lib.rt:227:5
 loop-again : tie.Need-loop-again Inv-loop μ-loop
-loop-again c = search needs
+loop-again c = (
+  search needs,
+  length-set (c .before .before .before .before .loop .out) _ _ ∙ c .before .before .before .before .loop .inv .1,
+  fill _ _ (c .before .before .before .before .loop .out) _ (omega (arith, c .before .before .before .before .before .before .before .pre .0)) (c .before .before .before .before .loop .inv .2) (c .counted-row .ensures),
+)
 
--- src/lib.rt:221:1
 returns : tie.Need-returns Inv-loop μ-loop
-returns c = search needs
+unfolding counted
+returns c = let whole : c .before .loop .i ≡ length (c .before .before .before .before .args .rows .now) = omega arith in (c .before .loop .inv .1, rw (← whole) (c .before .loop .inv .2))
 
 pub counted-rows-spec : {M : Type 1} → statement M
 counted-rows-spec =

@@ -33,13 +33,7 @@ one-if-same-requires : tie.Need-one-if-same-requires Inv-loop μ-loop
 one-if-same-requires c κs = search needs
 
 add-found : tie.Need-add-found Inv-loop μ-loop
-add-found c =
-    let rows = c .before .before .before .before .before .args .rows .now in
-    let v = c .before .before .before .before .before .args .v in
-    let i = c .before .before .before .loop .i in
-    omega
-    (arith,
-    count-turn-le i (λ k. eqb (getD rows k 0) v) (eqb (getD rows i 0) v) (c .before .before .before .loop .inv .1) (c .one-if-same .ensures))
+add-found c = omega (arith, count-turn-le _ _ (c .before .before .before .loop .inv .1) (c .one-if-same .ensures))
 
 add-i : tie.Need-add-i Inv-loop μ-loop
 add-i c = search needs
@@ -52,9 +46,7 @@ loop-again c = (search needs, count-turn _ _ (c .before .before .before .loop .i
 
 returns : tie.Need-returns Inv-loop μ-loop
 unfolding places
-returns c =
-    let whole : c .before .loop .i ≡ length (c .before .before .before .args .rows .now) = omega arith in
-    c .before .loop .inv .1 ∙ ap (λ (n : ℕ). count n (λ k. eqb (getD (c .before .before .before .args .rows .now) k 0) (c .before .before .before .args .v))) whole
+returns c = let whole : c .before .loop .i ≡ length (c .before .before .before .args .rows .now) = omega arith in rw (← whole) (c .before .loop .inv .1)
 
 pub places-of-spec : {M : Type 1} → statement M
 places-of-spec =
