@@ -92,3 +92,7 @@ front-take n f xs = take-at (build n f) (drop n xs) n (length-build n f)
 pub front-ext : (n : ℕ) (f g : ℕ → ℕ) (xs : List ℕ) → ((k : ℕ) → k < n → f k ≡ g k) → front n f xs ≡ front n g xs
 unfolding front
 front-ext n f g xs h = ap (λ (ys : List ℕ). ys ++ drop n xs) (build-ext n f g h)
+
+-- a loop that has come to its bound has filled the whole front
+pub front-whole : {m n : ℕ} (f : ℕ → ℕ) (xs : List ℕ) {ys : List ℕ} → m ≡ n → ys ≡ front m f xs → ys ≡ front n f xs
+front-whole f xs e h = h ∙ ap (λ (k : ℕ). front k f xs) e

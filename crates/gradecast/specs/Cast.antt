@@ -6,8 +6,9 @@ use mathlib.Core.List.{List}
 use lib.ListN.{length, getD, replicate}
 use Rattle.counting.specs.Count.{front}
 use Rattle.sizes.specs.Sizes.{sound, tableRows}
+use Rattle.tally.specs.declared.Graded.{Graded}
 use Rattle.gradecast.specs.declared.Cast.{Cast}
-use Rattle.gradecast.specs.Steps.{placeFrom, sends, hears, confidence, gradeRow, messages}
+use Rattle.gradecast.specs.Steps.{placeFrom, sends, hears, heard1, voted, confidence, gradeRow, messages}
 
 -- what a sound box i has for leader k; nothing in a faulty box's place
 unfoldable pub ofSound : ℕ → (ℕ → ℕ → ℕ) → ℕ → ℕ → ℕ
@@ -32,6 +33,33 @@ pub record Ready (n : ℕ) (table : List ℕ) : Type 0 where
 pub record Among (n i k : ℕ) : Type 0 where
   pub is-box : i < n
   pub is-leader : k < n
+
+module _ (n t faulty : ℕ) (lists table said : List ℕ) where
+  -- said is what the sound boxes send in step 2, from some rows; then r is what box i sends in step 3 about leader k
+  abbrev pub VoteCell : ℕ → ℕ → ℕ → Type 0
+  VoteCell i k r =
+      (rows : List ℕ) → said ≡ cells n (ofSound faulty (heard1 n faulty rows lists table)) →
+      r ≡ ofSound faulty (voted n t faulty rows lists table) i k
+
+  -- the same of the first p cells
+  abbrev pub VoteCells : ℕ → List ℕ → Type 0
+  VoteCells p out =
+      (rows : List ℕ) → said ≡ cells n (ofSound faulty (heard1 n faulty rows lists table)) →
+      out ≡ front p (λ q. ofSound faulty (voted n t faulty rows lists table) (q / n) (q % n)) (replicate 169 0)
+
+  -- said is what the sound boxes send in step 3; then r is the grade of box i for leader k
+  abbrev pub GradeCell : ℕ → ℕ → Graded → Type 0
+  GradeCell i k r =
+      (rows : List ℕ) → said ≡ cells n (ofSound faulty (voted n t faulty rows lists table)) →
+      (r .row ≡ ofSound faulty (gradeRow n t faulty rows lists table) i k) ×
+      (r .confidence ≡ ofSound faulty (confidence n t faulty rows lists table) i k)
+
+  -- the same of the first p cells
+  abbrev pub GradeCells : ℕ → List ℕ → List ℕ → Type 0
+  GradeCells p outRows outConfidences =
+      (rows : List ℕ) → said ≡ cells n (ofSound faulty (voted n t faulty rows lists table)) →
+      (outRows ≡ front p (λ q. ofSound faulty (gradeRow n t faulty rows lists table) (q / n) (q % n)) (replicate 169 0)) ×
+      (outConfidences ≡ front p (λ q. ofSound faulty (confidence n t faulty rows lists table) (q / n) (q % n)) (replicate 169 0))
 
 unfoldable pub castReply : ℕ → ℕ → ℕ → List ℕ → List ℕ → List ℕ → Cast
 castReply n t faulty rows lists table =

@@ -1,68 +1,70 @@
+-- `gradecast::column` meets its contract: after j turns the first j places hold what is heard from the boxes below j. What is left of n
+-- falls. Assumes nothing.
+use mathlib.Core.Path.{_≡_, ap, _∙_}
+use Prim.Native.Nat.{ℕ, _*_, _+_, _-_, _≤_, _<_}
+use native.Mathlib.Omega.{arith}
+use lib.ListN.{getD, replicate}
+use Rattle.counting.specs.Count.{front}
+use Rattle.counting.proofs.Build.{front-none, front-turn, front-whole}
+use Rattle.gradecast.specs.Steps.{hears, sends}
+use Rattle.gradecast.specs.Cast.{heardFrom}
+use Rattle.gradecast.proofs.Places.{square-le, two-digits, table-le}
 use borrow.Author.Needs.{needs}
 use Rattle.gradecast.proofs.column.Statement.{statement}
 use Rattle.gradecast.proofs.column.Tie as tie
-use Rattle.gradecast.proofs.column.Reads as reads
-use Rattle.gradecast.proofs.column.Lts as lts
-use Rattle.gradecast.proofs.hear.Reads as hear-reads
-use Rattle.gradecast.proofs.place_from.Reads as place-from-reads
 
 abbrev Inv-loop : tie.InvT-loop
-Inv-loop base n list faulty table said i k out₀ j₀ out j = ?
+Inv-loop base n list faulty table said i k out₀ j₀ out j = (j ≤ n) × (out ≡ front j (heardFrom base n list faulty table said i k) (replicate 13 0))
 
 abbrev μ-loop : tie.MeasureT-loop
-μ-loop base n list faulty table said i k out₀ j₀ out j = ?
+μ-loop base n list faulty table said i k out₀ j₀ out j = n - j
 
--- src/lib.rt:93:5
 loop-holds : tie.Need-loop-holds Inv-loop μ-loop
-loop-holds c = search needs
+loop-holds c = (search needs, front-none _ (replicate 13 0))
 
--- src/lib.rt:94:13
 place-from-requires : tie.Need-place-from-requires Inv-loop μ-loop
-place-from-requires c κs = search needs
+place-from-requires c κs = (c .before .before .before .pre .0 .high, omega (arith, table-le (c .before .before .before .pre .0 .high), c .before .before .before .pre .2), c .loop-test .taken, c .before .before .before .pre .1)
 
--- src/lib.rt:95:59
 mul-hear : tie.Need-mul-hear Inv-loop μ-loop
-mul-hear c = search needs
+mul-hear c = omega (arith, square-le (c .before .before .before .before .pre .0 .high), two-digits {a = c .before .before .loop .j} (omega arith) (c .before .before .before .before .pre .1 .is-leader))
 
--- src/lib.rt:95:59
 add-hear : tie.Need-add-hear Inv-loop μ-loop
-add-hear c = search needs
+add-hear c = omega (arith, square-le (c .before .before .before .before .pre .0 .high), two-digits {a = c .before .before .loop .j} (omega arith) (c .before .before .before .before .pre .1 .is-leader))
 
--- src/lib.rt:95:54
 mul-hear-2 : tie.Need-mul-hear-2 Inv-loop μ-loop
-mul-hear-2 c = search needs
+mul-hear-2 c = omega (arith, square-le (c .before .before .before .before .pre .0 .high), two-digits {a = c .before .before .loop .j} (omega arith) (c .before .before .before .before .pre .1 .is-leader))
 
--- src/lib.rt:95:54
 element-copy-out-hear : tie.Need-element-copy-out-hear Inv-loop μ-loop
-element-copy-out-hear c = search needs
+element-copy-out-hear c = omega (arith, square-le (c .before .before .before .before .pre .0 .high), two-digits {a = c .before .before .loop .j} (omega arith) (c .before .before .before .before .pre .1 .is-leader))
 
--- src/lib.rt:95:18
 hear-requires : tie.Need-hear-requires Inv-loop μ-loop
-hear-requires c κs = search needs
+hear-requires c κs = omega (arith, c .before .before .before .before .before .pre .0, c .before .before .before .before .before .pre .2, c .before .place-from .ensures .1)
 
--- src/lib.rt:95:9
 mul-out : tie.Need-mul-out Inv-loop μ-loop
-mul-out c = search needs
+mul-out c = omega (arith, c .before .before .before .before .before .before .pre .0)
 
--- src/lib.rt:95:9
 array-write-out : tie.Need-array-write-out Inv-loop μ-loop
-array-write-out c = search needs
+array-write-out c = omega (arith, c .before .before .before .before .before .before .pre .0)
 
--- src/lib.rt:96:9
 add-j : tie.Need-add-j Inv-loop μ-loop
-add-j c = search needs
+add-j c = omega (arith, c .before .before .before .before .before .before .pre .0)
 
--- src/lib.rt:93:5
 loop-less : tie.Need-loop-less Inv-loop μ-loop
 loop-less c = search needs
 
--- src/lib.rt:93:5
 loop-again : tie.Need-loop-again Inv-loop μ-loop
-loop-again c = search needs
+unfolding heardFrom
+loop-again c = 
+    let a = c .before .before .before .before .before .before .args in
+    let j = c .before .before .before .before .loop .j in
+    (search needs,
+    front-turn _ _ (replicate 13 0) _ (omega (arith, c .before .before .before .before .before .before .pre .0)) (c .before .before .before .before .loop .inv .1)
+    (c .hear .ensures
+    ∙ ap (λ (p : ℕ). hears (a .list) j (sends (a .faulty) (a .table .now) j p (getD (a .said .now) (j * a .n + a .k) 0)))
+    (c .before .before .place-from .ensures .0)))
 
--- src/lib.rt:87:1
 returns : tie.Need-returns Inv-loop μ-loop
-returns c = search needs
+returns c = front-whole _ (replicate 13 0) (omega arith) (c .before .loop .inv .1)
 
 pub column-spec : {M : Type 1} → statement M
 column-spec =

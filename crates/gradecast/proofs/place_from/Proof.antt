@@ -1,32 +1,29 @@
-use borrow.Author.Needs.{needs}
+-- `gradecast::place_from` meets its contract: sender, receiver and leader are three digits in base n, and n is at most 13. Assumes nothing.
+use mathlib.Core.Path.{refl}
+use native.Mathlib.Omega.{arith}
+use Rattle.gradecast.specs.Steps.{placeFrom}
+use Rattle.gradecast.proofs.Places.{square-le, cube-le, two-digits, three-digits}
 use Rattle.gradecast.proofs.place_from.Statement.{statement}
 use Rattle.gradecast.proofs.place_from.Tie as tie
-use Rattle.gradecast.proofs.place_from.Reads as reads
-use Rattle.gradecast.proofs.place_from.Lts as lts
 
--- src/lib.rt:56:14
 mul-result : tie.Need-mul-result
-mul-result c = search needs
+mul-result c = omega (arith, square-le (c .pre .0), cube-le (c .pre .0), two-digits (c .pre .2) (c .pre .3 .is-box), three-digits (c .pre .2) (c .pre .3 .is-box) (c .pre .3 .is-leader), c .pre .1)
 
--- src/lib.rt:56:14
 add-result : tie.Need-add-result
-add-result c = search needs
+add-result c = omega (arith, square-le (c .pre .0), cube-le (c .pre .0), two-digits (c .pre .2) (c .pre .3 .is-box), three-digits (c .pre .2) (c .pre .3 .is-box) (c .pre .3 .is-leader), c .pre .1)
 
--- src/lib.rt:56:13
 mul-result-2 : tie.Need-mul-result-2
-mul-result-2 c = search needs
+mul-result-2 c = omega (arith, square-le (c .pre .0), cube-le (c .pre .0), two-digits (c .pre .2) (c .pre .3 .is-box), three-digits (c .pre .2) (c .pre .3 .is-box) (c .pre .3 .is-leader), c .pre .1)
 
--- src/lib.rt:56:13
 add-result-2 : tie.Need-add-result-2
-add-result-2 c = search needs
+add-result-2 c = omega (arith, square-le (c .pre .0), cube-le (c .pre .0), two-digits (c .pre .2) (c .pre .3 .is-box), three-digits (c .pre .2) (c .pre .3 .is-box) (c .pre .3 .is-leader), c .pre .1)
 
--- src/lib.rt:56:5
 add-result-3 : tie.Need-add-result-3
-add-result-3 c = search needs
+add-result-3 c = omega (arith, square-le (c .pre .0), cube-le (c .pre .0), two-digits (c .pre .2) (c .pre .3 .is-box), three-digits (c .pre .2) (c .pre .3 .is-box) (c .pre .3 .is-leader), c .pre .1)
 
--- src/lib.rt:52:1
 returns : tie.Need-returns
-returns c = search needs
+unfolding placeFrom
+returns c = (refl, omega (arith, three-digits (c .pre .2) (c .pre .3 .is-box) (c .pre .3 .is-leader)))
 
 pub place-from-spec : {M : Type 1} → statement M
 place-from-spec =

@@ -1,20 +1,20 @@
-use borrow.Author.Needs.{needs}
+-- `gradecast::place_of_first` meets its contract: sender and receiver are two digits in base n, and n is at most 13. Assumes nothing.
+use mathlib.Core.Path.{refl}
+use native.Mathlib.Omega.{arith}
+use Rattle.gradecast.specs.Steps.{place1}
+use Rattle.gradecast.proofs.Places.{square-le, two-digits}
 use Rattle.gradecast.proofs.place_of_first.Statement.{statement}
 use Rattle.gradecast.proofs.place_of_first.Tie as tie
-use Rattle.gradecast.proofs.place_of_first.Reads as reads
-use Rattle.gradecast.proofs.place_of_first.Lts as lts
 
--- src/lib.rt:48:5
 mul-result : tie.Need-mul-result
-mul-result c = search needs
+mul-result c = omega (arith, square-le (c .pre .0), two-digits (c .pre .1 .is-box) (c .pre .1 .is-leader))
 
--- src/lib.rt:48:5
 add-result : tie.Need-add-result
-add-result c = search needs
+add-result c = omega (arith, square-le (c .pre .0), two-digits (c .pre .1 .is-box) (c .pre .1 .is-leader))
 
--- src/lib.rt:44:1
 returns : tie.Need-returns
-returns c = search needs
+unfolding place1
+returns c = (refl, two-digits (c .pre .1 .is-box) (c .pre .1 .is-leader))
 
 pub place-of-first-spec : {M : Type 1} → statement M
 place-of-first-spec = tie.close (tie.spec mul-result add-result returns)

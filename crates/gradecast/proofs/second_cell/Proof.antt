@@ -1,47 +1,48 @@
+-- `gradecast::second_cell` meets its contract: a faulty box's cell is 0, and a sound one's is what it hears of the leader in step 1. Assumes
+-- nothing.
+use mathlib.Core.Path.{sym, ap, _∙_}
+use Prim.Native.Nat.{ℕ}
+use native.Mathlib.Omega.{arith}
+use lib.ListN.{getD}
+use Rattle.gradecast.specs.Steps.{hears, sends, heard1}
+use Rattle.gradecast.proofs.Places.{first-fits}
+use Rattle.gradecast.proofs.Sound.{of-faulty, of-sound}
 use borrow.Author.Needs.{needs}
 use Rattle.gradecast.proofs.second_cell.Statement.{statement}
 use Rattle.gradecast.proofs.second_cell.Tie as tie
-use Rattle.gradecast.proofs.second_cell.Reads as reads
-use Rattle.gradecast.proofs.second_cell.Lts as lts
-use Rattle.gradecast.proofs.hear.Reads as hear-reads
-use Rattle.gradecast.proofs.is_member.Reads as is-member-reads
-use Rattle.gradecast.proofs.place_of_first.Reads as place-of-first-reads
 
--- src/lib.rt:64:8
 is-member-requires : tie.Need-is-member-requires
 is-member-requires c κs = search needs
 
--- src/lib.rt:65:9
 returns : tie.Need-returns
-returns c = search needs
+returns c = sym (of-faulty _ _ _ _ (sym (c .before .is-member .ensures) ∙ c .if1 .taken))
 
--- src/lib.rt:67:9
 place-of-first-requires : tie.Need-place-of-first-requires
 place-of-first-requires c κs = search needs
 
--- src/lib.rt:68:10
 mul-hear : tie.Need-mul-hear
 mul-hear c = search needs
 
--- src/lib.rt:68:10
 element-copy-out-hear : tie.Need-element-copy-out-hear
 element-copy-out-hear c = search needs
 
--- src/lib.rt:68:45
 mul-hear-2 : tie.Need-mul-hear-2
 mul-hear-2 c = search needs
 
--- src/lib.rt:68:45
 element-copy-out-hear-2 : tie.Need-element-copy-out-hear-2
 element-copy-out-hear-2 c = search needs
 
--- src/lib.rt:68:5
 hear-requires : tie.Need-hear-requires
-hear-requires c κs = search needs
+hear-requires c κs = omega (arith, c .before .before .before .before .before .before .pre .0, c .before .before .before .before .before .before .pre .1, c .before .before .place-of-first .ensures .1, first-fits (c .before .before .before .before .before .before .args .n))
 
--- src/lib.rt:60:1
 returns-2 : tie.Need-returns-2
-returns-2 c = search needs
+unfolding heard1
+returns-2 c = 
+    let a = c .before .before .before .before .before .before .before .args in
+    c .hear .ensures
+    ∙ ap (λ (p : ℕ). hears (getD (a .lists .now) (a .i) 0) (a .k) (sends (a .faulty) (a .table .now) (a .k) p (getD (a .rows .now) (a .k) 0)))
+    (c .before .before .before .place-of-first .ensures .0)
+    ∙ sym (of-sound _ _ _ _ (sym (c .before .before .before .before .before .is-member .ensures) ∙ c .before .before .before .before .if1 .left))
 
 pub second-cell-spec : {M : Type 1} → statement M
 second-cell-spec =

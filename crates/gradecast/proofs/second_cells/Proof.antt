@@ -1,59 +1,58 @@
+-- `gradecast::second_cells` meets its contract: after p turns the first p cells are filled, cell p for box p / n and leader p % n. What is left
+-- of n² falls. Assumes nothing.
+use mathlib.Core.Path.{_≡_, refl, ap, _∙_}
+use Prim.Native.Nat.{ℕ, _*_, _/_, _%_, _-_, _≤_}
+use native.Mathlib.Omega.{arith}
+use lib.ListN.{replicate}
+use Rattle.counting.specs.Count.{front}
+use Rattle.counting.proofs.Build.{front-none, front-turn}
+use Rattle.gradecast.specs.Steps.{heard1}
+use Rattle.gradecast.specs.Cast.{ofSound, cells}
+use Rattle.gradecast.proofs.Cells.{place-among}
+use Rattle.gradecast.proofs.Places.{square-le}
 use borrow.Author.Needs.{needs}
 use Rattle.gradecast.proofs.second_cells.Statement.{statement}
 use Rattle.gradecast.proofs.second_cells.Tie as tie
-use Rattle.gradecast.proofs.second_cells.Reads as reads
-use Rattle.gradecast.proofs.second_cells.Lts as lts
-use Rattle.gradecast.proofs.second_cell.Reads as second-cell-reads
 
 abbrev Inv-loop : tie.InvT-loop
-Inv-loop n faulty rows lists table out₀ size p₀ out p = ?
+Inv-loop n faulty rows lists table out₀ size p₀ out p = (p ≤ n * n) × (size ≡ n * n) × (out ≡ front p (λ q. ofSound faulty (heard1 n faulty rows lists table) (q / n) (q % n)) (replicate 169 0))
 
 abbrev μ-loop : tie.MeasureT-loop
-μ-loop n faulty rows lists table out₀ size p₀ out p = ?
+μ-loop n faulty rows lists table out₀ size p₀ out p = n * n - p
 
--- src/lib.rt:77:16
 mul-size : tie.Need-mul-size Inv-loop μ-loop
-mul-size c = search needs
+mul-size c = omega (arith, square-le (c .before .pre .high))
 
--- src/lib.rt:79:5
 loop-holds : tie.Need-loop-holds Inv-loop μ-loop
-loop-holds c = search needs
+loop-holds c = (search needs, refl, front-none _ (replicate 169 0))
 
--- src/lib.rt:80:61
 div-second-cell : tie.Need-div-second-cell Inv-loop μ-loop
-div-second-cell c = search needs
+div-second-cell c = omega (arith, c .before .before .before .pre .low)
 
--- src/lib.rt:80:68
 rem-second-cell : tie.Need-rem-second-cell Inv-loop μ-loop
-rem-second-cell c = search needs
+rem-second-cell c = omega (arith, c .before .before .before .pre .low)
 
--- src/lib.rt:80:18
 second-cell-requires : tie.Need-second-cell-requires Inv-loop μ-loop
-second-cell-requires c κs = search needs
+second-cell-requires c κs = (c .before .before .before .pre, place-among _ _ (c .before .before .before .pre .low) (omega arith))
 
--- src/lib.rt:80:9
 mul-out : tie.Need-mul-out Inv-loop μ-loop
-mul-out c = search needs
+mul-out c = omega (arith, square-le (c .before .before .before .before .pre .high))
 
--- src/lib.rt:80:9
 array-write-out : tie.Need-array-write-out Inv-loop μ-loop
-array-write-out c = search needs
+array-write-out c = omega (arith, square-le (c .before .before .before .before .pre .high))
 
--- src/lib.rt:81:9
 add-p : tie.Need-add-p Inv-loop μ-loop
-add-p c = search needs
+add-p c = omega (arith, square-le (c .before .before .before .before .pre .high))
 
--- src/lib.rt:79:5
 loop-less : tie.Need-loop-less Inv-loop μ-loop
 loop-less c = search needs
 
--- src/lib.rt:79:5
 loop-again : tie.Need-loop-again Inv-loop μ-loop
-loop-again c = search needs
+loop-again c = (omega arith, refl, front-turn _ _ (replicate 169 0) _ (omega (arith, square-le (c .before .before .before .before .pre .high))) (c .before .before .loop .inv .2) (c .second-cell .ensures))
 
--- src/lib.rt:72:1
 returns : tie.Need-returns Inv-loop μ-loop
-returns c = search needs
+unfolding cells
+returns c = let whole : c .before .loop .p ≡ c .before .before .before .args .n * c .before .before .before .args .n = omega arith in rw (← whole) (c .before .loop .inv .2)
 
 pub second-cells-spec : {M : Type 1} → statement M
 second-cells-spec =
