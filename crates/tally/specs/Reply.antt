@@ -39,15 +39,15 @@ voteReply xs t = record { refusal = voteRefusal t xs; row = unless (voteRefusal 
 unfoldable pub gradeReply : List ℕ → ℕ → Grade
 gradeReply xs t =
     record {
-    refusal = gradeRefusal t xs;
-    row = unless (gradeRefusal t xs) (gradedRow t xs);
-    confidence = unless (gradeRefusal t xs) (confidenceOf t xs)
+      refusal = gradeRefusal t xs;
+      row = unless (gradeRefusal t xs) (gradedRow t xs);
+      confidence = unless (gradeRefusal t xs) (confidenceOf t xs);
     }
 
 unfoldable pub choiceReply : List ℕ → List ℕ → Choice
 choiceReply rows confidences =
     record {
-    refusal = choiceRefusal rows confidences;
-    row = unless (choiceRefusal rows confidences) (chosenRow rows confidences);
-    firm = unless (choiceRefusal rows confidences) (firmLeaders rows confidences)
+      refusal = choiceRefusal rows confidences;
+      row = unless (choiceRefusal rows confidences) (chosenRow rows confidences);
+      firm = unless (choiceRefusal rows confidences) (firmLeaders rows confidences);
     }
