@@ -1,1 +1,4 @@
+pub mod Blind
+pub mod Listed
+pub mod Messages
 pub mod Properties

@@ -16,7 +16,7 @@ use borrow.Author.Tests.{eqb-true, eq-eqb, ne-eqb}
 use Rattle.counting.specs.Count.{build}
 use Rattle.counting.specs.Sets.{member}
 use Rattle.counting.specs.Most.{places}
-use Rattle.counting.proofs.Bools.{and-left, and-right, not-true, not-of-false, cond-true}
+use Rattle.counting.proofs.Bools.{and-left, and-right, not-true, not-of-false}
 use Rattle.counting.proofs.Build.{length-build}
 use Rattle.counting.proofs.Count.{Between, count-mono, count-parted, count-all, count-none, count-more}
 use Rattle.counting.proofs.Places.{places-build, places-one}
@@ -24,6 +24,7 @@ use Rattle.tally.specs.Tally.{voteOf, confidenceOf, gradedRow, supportOf}
 use Rattle.tally.proofs.Laws.{vote-carried, vote-none, vote-is, confidence-2, confidence-0, confidence-le, places-support, graded-counts, graded-firm}
 use Rattle.gradecast.specs.Steps.{sound, place1, place2, place3, sends, hears, heard1, heard2, column2, voted, heard3, column3, confidence, gradeRow}
 use Rattle.gradecast.specs.Fair.{SoundBox, Fair, Gradecast, faultyBoxes}
+use Rattle.gradecast.proofs.Listed.{listed-heard1}
 
 -- a box that is not sound is faulty
 pub sound-not-faulty : (faulty j : ℕ) → sound faulty j ≡ true → member faulty j ≡ false
@@ -245,13 +246,13 @@ module _ {n t faulty : ℕ} {rows lists : List ℕ} (fair : Fair n t faulty rows
   -- a leader on every sound list: nothing of it is heard, so nothing is sent on
   all-silent : (k : ℕ) → ((i : ℕ) → SoundBox n faulty i → member (getD lists i 0) k ≡ true) →
       (i : ℕ) → SoundBox n faulty i → confidence n t faulty rows lists table i k ≡ 0
-  unfolding confidence column3 voted column2 heard1 hears
+  unfolding confidence column3 voted column2
   all-silent k h i si =
       grade-silent (fair .tolerated) (fair .few) (λ j. heard3 n t faulty rows lists table i j k)
       (λ j sj.
       heard3-is i j k si sj
       ∙ vote-silent (fair .tolerated) (fair .few) (λ l. heard2 n t faulty rows lists table j l k)
-      (λ l sl. heard2-is j l k sj sl ∙ cond-true 0 (sends n t faulty rows lists table k (place1 n k l) (getD rows k 0)) (h l sl)))
+      (λ l sl. heard2-is j l k sj sl ∙ listed-heard1 n t faulty rows lists table l k (h l sl)))
 
   -- the promises
   pub gradecast : Gradecast n t faulty rows lists table
