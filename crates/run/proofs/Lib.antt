@@ -1,3 +1,4 @@
 pub mod Accepted
+pub mod Blind
 pub mod Closed
 pub mod Kept
