@@ -4,66 +4,29 @@
 -- n − t places at two sound boxes are n − 2t and n − t places in one column, more than there are; and a support of 2t + 1
 -- at one sound box is t + 1 at another.
 -- Assumes nothing.
-use mathlib.Core.Path.{_≡_, refl, sym, _∙_, subst}
-use mathlib.Core.Bool.{true, false, not, _&&_}
+use mathlib.Core.Path.{_≡_, refl, sym, _∙_}
+use mathlib.Core.Bool.{true}
 use mathlib.Core.List.{List}
-use Prim.Native.Nat.{ℕ, _+_, _*_, _≤_, _<_}
+use Prim.Native.Nat.{ℕ, _*_, _≤_, _<_}
 use native.Mathlib.Decide.{ℕ-discrete}
 use native.Mathlib.Omega.{arith}
 use lib.Dec.{eqb}
 use lib.ListN.{getD}
-use borrow.Author.Tests.{eqb-true, eq-eqb, ne-eqb}
+use borrow.Author.Tests.{eqb-true}
 use Rattle.counting.specs.Count.{build}
 use Rattle.counting.specs.Sets.{member}
-use Rattle.counting.specs.Most.{places}
-use Rattle.counting.proofs.Bools.{and-left, and-right, not-true, not-of-false}
 use Rattle.counting.proofs.Build.{length-build}
-use Rattle.counting.proofs.Count.{Between, count-mono, count-parted, count-all, count-none, count-more}
+use Rattle.counting.proofs.Count.{Between, count-more}
 use Rattle.counting.proofs.Places.{places-build, places-one}
 use Rattle.tally.specs.Tally.{voteOf, confidenceOf, gradedRow, supportOf}
 use Rattle.tally.proofs.Laws.{vote-carried, vote-none, vote-is, confidence-2, confidence-0, confidence-le, places-support, graded-counts, graded-firm}
-use Rattle.gradecast.specs.Steps.{sound, place1, place2, place3, sends, hears, heard1, heard2, column2, voted, heard3, column3, confidence, gradeRow}
+use Rattle.gradecast.specs.Steps.{place1, place2, place3, sends, hears, heard1, heard2, column2, voted, heard3, column3, confidence, gradeRow}
 use Rattle.gradecast.specs.Fair.{SoundBox, Fair, Gradecast, faultyBoxes}
 use Rattle.gradecast.proofs.Listed.{listed-heard1}
-
--- a box that is not sound is faulty
-pub sound-not-faulty : (faulty j : ℕ) → sound faulty j ≡ true → member faulty j ≡ false
-unfolding sound
-sound-not-faulty faulty j h = not-true (member faulty j) h
-
-pub not-faulty-sound : (faulty j : ℕ) → member faulty j ≡ false → sound faulty j ≡ true
-unfolding sound
-not-faulty-sound faulty j h = not-of-false h
+use Rattle.gradecast.proofs.Near.{sound-not-faulty, not-faulty-sound, all-places, no-places, near}
 
 positive : {c : ℕ} → (c ≡ 0 → ⊥) → 1 ≤ c
 positive z = omega (arith, z)
-
--- a column in which every place is c
-all-places : (n c : ℕ) → places (build n (λ j. c)) c ≡ n
-all-places n c = places-build n (λ j. c) c ∙ count-all n (λ j. eqb c c) (λ j l. eq-eqb c c refl)
-
-no-places : (n c v : ℕ) → (c ≡ v → ⊥) → places (build n (λ j. c)) v ≡ 0
-no-places n c v z = places-build n (λ j. c) v ∙ count-none n (λ j. eqb c v) (λ j l. ne-eqb c v z)
-
--- columns that agree at the sound boxes: the places of a row differ by at most the number of faulty boxes
-near : (n faulty : ℕ) (f g : ℕ → ℕ) (v : ℕ) → ((j : ℕ) → SoundBox n faulty j → f j ≡ g j) →
-    places (build n f) v ≤ places (build n g) v + faultyBoxes n faulty
-near n faulty f g v h =
-    omega (
-      arith,
-      places-build n f v,
-      places-build n g v,
-      count-parted n (λ j. eqb (f j) v) (member faulty),
-      count-mono n (λ j. eqb (f j) v && member faulty j) (member faulty) (λ j l t. and-right (eqb (f j) v) (member faulty j) t),
-      count-mono n (λ j. eqb (f j) v && not (member faulty j)) (λ j. eqb (g j) v)
-          (λ j l t.
-          subst (λ (m : ℕ). eqb m v ≡ true)
-          (h j (record {
-            below = l;
-            is-sound = not-faulty-sound faulty j (not-true (member faulty j) (and-right (eqb (f j) v) (not (member faulty j)) t));
-          }))
-          (and-left (eqb (f j) v) (not (member faulty j)) t)),
-    )
 
 -- a sound box whose row in the column is v
 record Witness (n faulty : ℕ) (f : ℕ → ℕ) (v : ℕ) : Type 0 where

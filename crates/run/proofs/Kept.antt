@@ -2,7 +2,7 @@
 -- row that was chosen or the old row, so it is not 0 where the old row was not. A new list holds the old members and the
 -- leaders with confidence 0 or 1.
 -- Assumes nothing.
-use mathlib.Core.Path.{_≡_, refl, ap, _∙_}
+use mathlib.Core.Path.{_≡_, refl, sym, ap, _∙_}
 use mathlib.Core.Bool.{Bool, true, false, cond, _&&_, _||_}
 use mathlib.Core.List.{List}
 use Prim.Native.Nat.{ℕ, _≤_, _<_}
@@ -13,10 +13,12 @@ use borrow.Author.Tests.{eqb-false, lt-ltb}
 use Rattle.counting.specs.Count.{build}
 use Rattle.counting.specs.Sets.{member}
 use Rattle.counting.proofs.Bools.{both, or-true-left, cond-true, cond-false}
-use Rattle.counting.proofs.Build.{getD-build}
+use Rattle.counting.proofs.Build.{length-build, getD-build}
 use Rattle.counting.proofs.Sets.{member-setOf}
+use Rattle.counting.specs.Most.{most}
 use Rattle.tally.specs.Tally.{chosenRow}
-use Rattle.gradecast.specs.Steps.{sound, confidence}
+use Rattle.tally.proofs.Laws.{graded-none, chosen-all}
+use Rattle.gradecast.specs.Steps.{sound, column3, confidence, gradeRow}
 use Rattle.gradecast.specs.Fair.{SoundBox}
 use Rattle.run.specs.declared.Run.{Run}
 use Rattle.run.specs.State.{startRow, startRun}
@@ -62,6 +64,22 @@ module _ (s : Run) (table : List ℕ) where
     where
       none : (f : ℕ → ℕ) → getD (build 13 (entry s table f)) k 0 ≡ 0
       none f = getD-build 13 (entry s table f) k 0 l ∙ cond-false (f k) 0 h
+
+  -- the row that was chosen is the one found most often among the graded rows
+  pub chosen-is : (i : ℕ) → chosenRow (gradedRows s table i) (confidences s table i) ≡ most (gradedRows s table i)
+  unfolding gradedRows confidences gradeRow confidence
+  chosen-is i =
+      chosen-all (gradedRows s table i) (confidences s table i)
+      (λ k l e.
+      let b : k < s .n = omega (arith, length-build (s .n) row) in
+      getD-build (s .n) row k 0 b ∙ row-zero k (sym (getD-build (s .n) sure k 0 b) ∙ e))
+    where
+      row : ℕ → ℕ
+      row k = gradeRow (s .n) (s .t) (s .faulty) (s .rows) (s .lists) table i k
+      sure : ℕ → ℕ
+      sure k = confidence (s .n) (s .t) (s .faulty) (s .rows) (s .lists) table i k
+      row-zero : (k : ℕ) → sure k ≡ 0 → row k ≡ 0
+      row-zero k e = graded-none (s .t) (column3 (s .n) (s .t) (s .faulty) (s .rows) (s .lists) table i k) e
 
   pub new-row-not-zero : (k : ℕ) → (getD (s .rows) k 0 ≡ 0 → ⊥) → newRow s table k ≡ 0 → ⊥
   unfolding newRow

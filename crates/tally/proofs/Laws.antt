@@ -13,11 +13,11 @@ use native.Mathlib.Decide.{ℕ-discrete}
 use native.Mathlib.Omega.{arith}
 use lib.Dec.{eqb, leb, ltb}
 use lib.ListN.{length, getD}
-use borrow.Author.Tests.{eqb-false, eq-eqb, ne-eqb, leb-true, leb-false, le-leb, ltb-true, ltb-false}
-use Rattle.counting.specs.Count.{build, find}
+use borrow.Author.Tests.{eqb-true, eqb-false, eq-eqb, ne-eqb, leb-true, leb-false, le-leb, ltb-true, ltb-false}
+use Rattle.counting.specs.Count.{find}
 use Rattle.counting.specs.Most.{places, support, most}
 use Rattle.counting.proofs.Bools.{never, both, and-left, and-right, not-true, not-of-false, cond-true, cond-false}
-use Rattle.counting.proofs.Build.{length-build, getD-build, build-ext}
+use Rattle.counting.proofs.Build.{length-build, getD-build, built}
 use Rattle.counting.proofs.Count.{find-cases}
 use Rattle.counting.proofs.Most.{Stands, IsMost, support-places, supported, most-is, most-stands, most-zero}
 use Rattle.counting.proofs.Places.{places-one, most-majority}
@@ -197,12 +197,6 @@ module _ (rows confidences : List ℕ) where
   unfolding chosenRow
   chosen-most = most-is (counted rows confidences)
 
-  -- a row that more than half of the leaders hold is chosen
-  pub chosen-majority : (v : ℕ) → (v ≡ 0 → ⊥) → length rows < 2 * places (counted rows confidences) v →
-      chosenRow rows confidences ≡ v
-  unfolding chosenRow
-  chosen-majority v z h = most-majority (counted rows confidences) v z (omega (arith, length-counted))
-
   -- a chosen row is a leader's, whole, and that leader has confidence 1 or 2
   pub chosen-held : (chosenRow rows confidences ≡ 0 → ⊥) → Held rows confidences (chosenRow rows confidences)
   unfolding chosenRow
@@ -231,13 +225,17 @@ module _ (rows confidences : List ℕ) where
   chosen-none e k l c =
       rw (ne-eqb (getD confidences k 0) 0 c) at (sym (counted-at k l)) ∙ most-zero (counted rows confidences) e k (omega (arith, length-counted))
 
--- the choice depends on nothing but what counts
-pub chosen-ext : (rows confidences rows′ confidences′ : List ℕ) → length rows ≡ length rows′ →
-    ((k : ℕ) → k < length rows → countedAt (getD rows k 0) (getD confidences k 0) ≡ countedAt (getD rows′ k 0) (getD confidences′ k 0)) →
-    chosenRow rows confidences ≡ chosenRow rows′ confidences′
-unfolding chosenRow counted
-chosen-ext rows confidences rows′ confidences′ e h =
-    ap most
-    (build-ext (length rows) (λ k. countedAt (getD rows k 0) (getD confidences k 0))
-    (λ k. countedAt (getD rows′ k 0) (getD confidences′ k 0)) h
-    ∙ ap (λ (n : ℕ). build n (λ k. countedAt (getD rows′ k 0) (getD confidences′ k 0))) e)
+  -- where confidence 0 comes with row 0, as in a grade, every row counts as it stands
+  pub chosen-all : ((k : ℕ) → k < length rows → getD confidences k 0 ≡ 0 → getD rows k 0 ≡ 0) →
+      chosenRow rows confidences ≡ most rows
+  unfolding chosenRow counted
+  chosen-all h =
+      ap most
+      (sym
+      (built (length rows) (λ k. countedAt (getD rows k 0) (getD confidences k 0)) rows refl
+      (λ k l. go k (eqb (getD confidences k 0) 0) refl (h k l))))
+    where
+      go : (k : ℕ) (b : Bool) → eqb (getD confidences k 0) 0 ≡ b → (getD confidences k 0 ≡ 0 → getD rows k 0 ≡ 0) →
+          getD rows k 0 ≡ cond b 0 (getD rows k 0)
+      go k true e f = f (eqb-true (getD confidences k 0) 0 e)
+      go k false e f = refl

@@ -1,0 +1,2 @@
+pub mod Condemned
+pub mod Iteration
