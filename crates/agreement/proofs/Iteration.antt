@@ -3,19 +3,19 @@
 -- that one sound box counts and another does not. Where there is none, the sound boxes have the same graded rows and choose
 -- alike; where there is one, it was not on every sound list before, and is after.
 -- Assumes nothing.
-use mathlib.Core.Path.{_≡_, refl, sym, ap, _∙_}
+use mathlib.Core.Path.{_≡_, sym, ap, _∙_}
 use mathlib.Core.Bool.{Bool, true, false, cond, not, _&&_, _||_}
 use mathlib.Core.List.{List}
 use mathlib.Core.Logic.{_⊎_, ⊎-elim}
 use mathlib.Core.Logic._⊎_.{inl, inr}
-use Prim.Native.Nat.{ℕ, suc, _+_, _*_, _≤_, _<_}
+use Prim.Native.Nat.{ℕ, _≤_, _<_}
 use native.Mathlib.Decide.{ℕ-discrete}
 use native.Mathlib.Omega.{arith}
 use lib.Dec.{eqb, ltb}
-use lib.ListN.{length, getD}
+use lib.ListN.{getD}
 use borrow.Author.Tests.{eqb-true, eqb-false, eq-eqb, ne-eqb, le-ltb, lt-ltb}
 use Rattle.counting.specs.Count.{any, count, build}
-use Rattle.counting.specs.Most.{places, most}
+use Rattle.counting.specs.Most.{most}
 use Rattle.counting.specs.Sets.{member}
 use Rattle.counting.proofs.Bools.{either, never, both, and-left, and-right, not-true, not-of-false, or-none, or-true-right, cond-false}
 use Rattle.counting.proofs.Build.{length-build, getD-build, build-ext}
@@ -23,14 +23,13 @@ use Rattle.counting.proofs.Count.{Some, any-some, any-none, some-any, count-str
 use Rattle.counting.proofs.Most.{most-zero}
 use Rattle.counting.proofs.Places.{most-majority}
 use Rattle.sizes.proofs.Laws.{inside-high}
-use Rattle.tally.specs.Tally.{chosenRow}
-use Rattle.tally.proofs.Laws.{graded-none}
-use Rattle.gradecast.specs.Steps.{sound, column3, confidence, gradeRow}
-use Rattle.gradecast.specs.Fair.{SoundBox, NoSoundListed, Fair, Gradecast}
+use Rattle.gradecast.specs.Steps.{sound, confidence, gradeRow}
+use Rattle.gradecast.specs.Fair.{SoundBox, Fair, Gradecast}
+use Rattle.gradecast.proofs.Grades.{row-none, positive}
 use Rattle.gradecast.proofs.Near.{all-places, near}
 use Rattle.gradecast.proofs.Properties.{gradecast}
 use Rattle.run.specs.declared.Run.{Run}
-use Rattle.run.specs.Iteration.{gradedRows, confidences, newRow, nextRun}
+use Rattle.run.specs.Iteration.{gradedRows, newRow, nextRun}
 use Rattle.run.specs.Legal.{Legal}
 use Rattle.run.proofs.Closed.{next-not-zero}
 use Rattle.run.proofs.Kept.{next-row, next-list, new-list-member, list-kept, chosen-is}
@@ -47,6 +46,21 @@ pub record Split (n faulty : ℕ) (sure : ℕ → ℕ → ℕ) : Type 0 where
   pub leaving : SoundBox n faulty j
   pub counts : 1 ≤ sure i k
   pub leaves : sure j k ≡ 0
+
+-- a sound box that passes a test
+record SoundWith (n faulty : ℕ) (p : ℕ → Bool) : Type 0 where
+  at : ℕ
+  box-sound : SoundBox n faulty at
+  passes : p at ≡ true
+
+any-sound : (n faulty : ℕ) (p : ℕ → Bool) → any n (λ i. sound faulty i && p i) ≡ true → SoundWith n faulty p
+any-sound n faulty p h =
+    let w = any-some n (λ i. sound faulty i && p i) h in
+    record {
+      at = w .at;
+      box-sound = record { below = w .below; is-sound = and-left (sound faulty (w .at)) (p (w .at)) (w .passes) };
+      passes = and-right (sound faulty (w .at)) (p (w .at)) (w .passes);
+    }
 
 module _ (s : Run) (table : List ℕ) (legal : Legal s) (fair : Fair (s .n) (s .t) (s .faulty) (s .rows) (s .lists)) where
   abbrev sure : ℕ → ℕ → ℕ
@@ -69,13 +83,13 @@ module _ (s : Run) (table : List ℕ) (legal : Legal s) (fair : Fair (s .n) (s .
   pub next-fair : Fair (s .n) (s .t) (s .faulty) (nextRun s table .rows) (nextRun s table .lists)
   next-fair =
       record {
-      tolerated = fair .tolerated;
-      few = fair .few;
-      none-listed =
-        λ i k si sk.
-        next-member i k si (sk .below)
-        ∙ or-none (fair .none-listed i k si sk) (le-ltb (sure i k) 2 (omega (arith, promises .sound-leader i k si sk .0)));
-      none-zero = next-not-zero s table legal
+        tolerated = fair .tolerated;
+        few = fair .few;
+        none-listed =
+            λ i k si sk.
+            next-member i k si (sk .below)
+            ∙ or-none (fair .none-listed i k si sk) (le-ltb (sure i k) 2 (omega (arith, promises .sound-leader i k si sk .0)));
+        none-zero = next-not-zero s table legal;
       }
 
   -- a sound box counts itself, so it chooses a row
@@ -100,10 +114,109 @@ module _ (s : Run) (table : List ℕ) (legal : Legal s) (fair : Fair (s .n) (s .
       next-most i si
       ∙ most-majority (build (s .n) (graded i)) v
       (λ e. fair .none-zero i si (h i si ∙ e))
-      (omega
-      (arith,
-      fair .tolerated,
-      fair .few,
-      length-build (s .n) (graded i),
-      all-places (s .n) v,
-      near (s .n) (s .faulty) (λ k. v) (graded i) v (λ k sk. sym (promises .sound-leader i k si sk .1 ∙ h k sk))))
+      (omega (
+        arith,
+        fair .tolerated,
+        fair .few,
+        length-build (s .n) (graded i),
+        all-places (s .n) v,
+        near (s .n) (s .faulty) (λ k. v) (graded i) v (λ k sk. sym (promises .sound-leader i k si sk .1 ∙ h k sk)),
+      ))
+
+  -- does box i count leader k, or leave it?
+  abbrev counter : ℕ → ℕ → Bool
+  counter k i = sound (s .faulty) i && not (eqb (sure i k) 0)
+
+  abbrev leaver : ℕ → ℕ → Bool
+  leaver k j = sound (s .faulty) j && eqb (sure j k) 0
+
+  abbrev parted : ℕ → Bool
+  parted k = any (s .n) (counter k) && any (s .n) (leaver k)
+
+  found : Some (s .n) parted → Split (s .n) (s .faulty) sure
+  found w =
+      record {
+        k = w .at;
+        i = a .at;
+        j = b .at;
+        leader = w .below;
+        counting = a .box-sound;
+        leaving = b .box-sound;
+        counts =
+            positive (eqb-false (sure (a .at) (w .at)) 0 (not-true (eqb (sure (a .at) (w .at)) 0) (a .passes)));
+        leaves = eqb-true (sure (b .at) (w .at)) 0 (b .passes);
+      }
+    where
+      a : SoundWith (s .n) (s .faulty) (λ i. not (eqb (sure i (w .at)) 0))
+      a =
+          any-sound (s .n) (s .faulty) (λ i. not (eqb (sure i (w .at)) 0))
+          (and-left (any (s .n) (counter (w .at))) (any (s .n) (leaver (w .at))) (w .passes))
+
+      b : SoundWith (s .n) (s .faulty) (λ j. eqb (sure j (w .at)) 0)
+      b =
+          any-sound (s .n) (s .faulty) (λ j. eqb (sure j (w .at)) 0)
+          (and-right (any (s .n) (counter (w .at))) (any (s .n) (leaver (w .at))) (w .passes))
+
+  -- where no leader parts the sound boxes, their graded rows are the same
+  same-graded : any (s .n) parted ≡ false → (i j : ℕ) → SoundBox (s .n) (s .faulty) i → SoundBox (s .n) (s .faulty) j →
+      (k : ℕ) → k < s .n → graded i k ≡ graded j k
+  same-graded none i j si sj k l = go (ℕ-discrete (sure i k) 0) (ℕ-discrete (sure j k) 0)
+    where
+      apart : (a b : ℕ) → SoundBox (s .n) (s .faulty) a → SoundBox (s .n) (s .faulty) b → (sure a k ≡ 0 → ⊥) → sure b k ≡ 0 → ⊥
+      apart a b sa sb y z =
+          never
+          (both
+          (some-any (s .n) (counter k) a (sa .below) (both (sa .is-sound) (not-of-false (ne-eqb (sure a k) 0 y))))
+          (some-any (s .n) (leaver k) b (sb .below) (both (sb .is-sound) (eq-eqb (sure b k) 0 z))))
+          (any-none (s .n) parted none k l)
+
+      zero-row : (a : ℕ) → sure a k ≡ 0 → graded a k ≡ 0
+      zero-row a = row-none (s .n) (s .t) (s .faulty) (s .rows) (s .lists) table a k
+
+      go : Dec (sure i k ≡ 0) → Dec (sure j k ≡ 0) → graded i k ≡ graded j k
+      go (yes y) (yes z) = zero-row i y ∙ sym (zero-row j z)
+      go (yes y) (no z) = absurd (apart j i sj si z y)
+      go (no y) (yes z) = absurd (apart i j si sj y z)
+      go (no y) (no z) = promises .one-row i j k si sj y z
+
+  -- the next sound rows are all equal, or a leader parts the sound boxes
+  pub same-or-split : SameRow (s .n) (s .faulty) (nextRun s table .rows) ⊎ Split (s .n) (s .faulty) sure
+  same-or-split =
+      ⊎-elim
+      (λ t. inr (found (any-some (s .n) parted t)))
+      (λ f.
+      inl
+      (λ i j si sj.
+      next-most i si
+      ∙ ap most (build-ext (s .n) (graded i) (graded j) (same-graded f i j si sj))
+      ∙ sym (next-most j sj)))
+      (either (any (s .n) parted))
+
+  -- a leader that one sound box does not count joins every sound list
+  pub split-joins : (j k : ℕ) → SoundBox (s .n) (s .faulty) j → k < s .n → sure j k ≡ 0 →
+      (l : ℕ) → SoundBox (s .n) (s .faulty) l → member (getD (nextRun s table .lists) l 0) k ≡ true
+  split-joins j k sj b none l sl =
+      next-member l k sl b
+      ∙ or-true-right (member (getD (s .lists) l 0) k) (lt-ltb (sure l k) 2 (omega (arith, promises .split-weak j l k sj sl none)))
+
+  -- so a leader that parts the sound boxes is one more on every sound list
+  pub split-more : Split (s .n) (s .faulty) sure →
+      count (s .n) (condemned (s .n) (s .faulty) (s .lists)) < count (s .n) (condemned (s .n) (s .faulty) (nextRun s table .lists))
+  split-more w =
+      count-strict (s .n) (condemned (s .n) (s .faulty) (s .lists)) (condemned (s .n) (s .faulty) (nextRun s table .lists))
+      (λ k l c.
+      is-condemned (s .n) (s .faulty) (nextRun s table .lists) k
+      (λ i si. list-kept s table i k few si l (condemned-is (s .n) (s .faulty) (s .lists) k c i si)))
+      (w .k) (w .leader)
+      (⊎-elim
+      (λ c.
+      absurd
+      (omega (
+        arith,
+        w .counts,
+        promises .all-listed (w .k) (condemned-is (s .n) (s .faulty) (s .lists) (w .k) c) (w .i) (w .counting),
+      )))
+      (λ f. f)
+      (either (condemned (s .n) (s .faulty) (s .lists) (w .k))))
+      (is-condemned (s .n) (s .faulty) (nextRun s table .lists) (w .k)
+      (split-joins (w .j) (w .k) (w .leaving) (w .leader) (w .leaves)))

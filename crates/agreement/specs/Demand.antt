@@ -2,14 +2,13 @@
 -- contracts cite. Boxes count from 0. A claim is made for every set of faulty boxes and for everything that they send.
 use Prim.Native.Nat.{ℕ, suc, _+_, _*_, _^_, _≤_, _<_}
 use mathlib.Core.Path.{_≡_}
-use mathlib.Core.Bool.{Bool, true}
+use mathlib.Core.Bool.{true}
 use mathlib.Core.List.{List}
 use lib.ListN.{length, getD}
 use Rattle.counting.specs.Sets.{member}
 use Rattle.sizes.specs.Sizes.{tableRows}
 use Rattle.gradecast.specs.Steps.{confidence}
 use Rattle.gradecast.specs.Fair.{SoundBox, faultyBoxes, NoSoundListed, SoundRowsNotZero, Gradecast}
-use Rattle.run.specs.declared.Run.{Run}
 use Rattle.run.specs.declared.Next.{Next}
 use Rattle.run.specs.State.{startReply, after}
 
@@ -53,10 +52,13 @@ module _ (n t faulty : ℕ) (rows : List ℕ) (tables : ℕ → List ℕ) where
   abbrev pub confidenceIn : ℕ → ℕ → ℕ → ℕ
   confidenceIn m i k = confidence n t faulty (rowsAfter m) (listsAfter m) (tables m) i k
 
-  -- agreement: no call is refused, and after all iterations every sound box holds the same row
-  pub record Agrees : Type 0 where
-    pub not-refused : (m : ℕ) → m ≤ iterations t → reply m .refusal ≡ 0
-    pub same-row : SameRow n faulty (rowsAfter (iterations t))
+  -- no call is refused
+  abbrev pub NotRefused : Type 0
+  NotRefused = (m : ℕ) → m ≤ iterations t → reply m .refusal ≡ 0
+
+  -- agreement: after all iterations every sound box holds the same row
+  abbrev pub Agrees : Type 0
+  Agrees = SameRow n faulty (rowsAfter (iterations t))
 
   -- validity: where all sound boxes start with one row, they hold it after every iteration
   abbrev pub Valid : Type 0
@@ -79,3 +81,13 @@ module _ (n t faulty : ℕ) (rows : List ℕ) (tables : ℕ → List ℕ) where
       (m : ℕ) → m < iterations t → (i j k : ℕ) → SoundBox n faulty i → SoundBox n faulty j → k < n →
       1 ≤ confidenceIn m i k → confidenceIn m j k ≡ 0 →
       (l : ℕ) → SoundBox n faulty l → member (getD (listsAfter (suc m)) l 0) k ≡ true
+
+-- demand 3
+pub record Demand3 (n t faulty : ℕ) (rows : List ℕ) (tables : ℕ → List ℕ) : Type 0 where
+  pub not-refused : NotRefused n t faulty rows tables
+  pub agrees : Agrees n t faulty rows tables
+  pub valid : Valid n t faulty rows tables
+  pub never-listed : NeverListed n t faulty rows tables
+  pub never-zero : NeverZero n t faulty rows tables
+  pub promises : Promises n t faulty rows tables
+  pub splits-join : SplitsJoin n t faulty rows tables

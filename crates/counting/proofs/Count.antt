@@ -193,11 +193,12 @@ some-count n p k l t = go (count n p) refl
 pub count-strict : (n : ℕ) (p q : ℕ → Bool) → ((k : ℕ) → k < n → p k ≡ true → q k ≡ true) → (k : ℕ) → k < n →
     p k ≡ false → q k ≡ true → count n p < count n q
 count-strict n p q h k l fails passes =
-    omega
-    (arith,
-    count-parted n q p,
-    count-mono n p (λ j. q j && p j) (λ j b e. both (h j b e) e),
-    some-count n (λ j. q j && not (p j)) k l (both passes (not-of-false fails)))
+    omega (
+      arith,
+      count-parted n q p,
+      count-mono n p (λ j. q j && p j) (λ j b e. both (h j b e) e),
+      some-count n (λ j. q j && not (p j)) k l (both passes (not-of-false fails)),
+    )
 
 -- two counts that together pass everything and a third test meet in a place outside that test
 pub count-meet : (n : ℕ) (p q f : ℕ → Bool) → n + count n f < count n p + count n q →

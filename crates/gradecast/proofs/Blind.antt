@@ -71,6 +71,7 @@ module _ (n t faulty : ℕ) (rows lists a b : List ℕ) (same : SameLies n fault
       non-zeros : (f g : ℕ → ℕ) → ((k : ℕ) → k < n → f k ≡ g k) → count n (λ k. not (eqb (f k) 0)) ≡ count n (λ k. not (eqb (g k) 0))
       non-zeros f g h =
           count-ext n (λ k. not (eqb (f k) 0)) (λ k. not (eqb (g k) 0)) (λ k l. ap (λ (m : ℕ). not (eqb m 0)) (h k l))
+
       by-one : (j : ℕ) → j < n → sentByOne n t faulty rows lists a j ≡ sentByOne n t faulty rows lists b j
       by-one j lj =
           ap₂ (λ (x y : ℕ). cond (eqb (getD rows j 0) 0) 0 1 + x + y)

@@ -1,4 +1,5 @@
 pub mod Blind
+pub mod Grades
 pub mod Listed
 pub mod Messages
 pub mod Near

@@ -36,11 +36,12 @@ module _ (n t faulty : ℕ) (rows lists table : List ℕ) where
 
   at-most : (b : Bool) (j : ℕ) → cond b (sentByOne j) 0 ≤ 1 + n + n
   at-most true j =
-      omega
-      (arith,
-      one-at-most (eqb (getD rows j 0) 0),
-      count-le n (λ k. not (eqb (heard1 n t faulty rows lists table j k) 0)),
-      count-le n (λ k. not (eqb (voted n t faulty rows lists table j k) 0)))
+      omega (
+        arith,
+        one-at-most (eqb (getD rows j 0) 0),
+        count-le n (λ k. not (eqb (heard1 n t faulty rows lists table j k) 0)),
+        count-le n (λ k. not (eqb (voted n t faulty rows lists table j k) 0)),
+      )
   at-most false j = omega arith
 
   -- one iteration sends at most as many messages as its table has rows

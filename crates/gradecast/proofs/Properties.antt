@@ -19,14 +19,12 @@ use Rattle.counting.proofs.Build.{length-build}
 use Rattle.counting.proofs.Count.{Between, count-more}
 use Rattle.counting.proofs.Places.{places-build, places-one}
 use Rattle.tally.specs.Tally.{voteOf, confidenceOf, gradedRow, supportOf}
-use Rattle.tally.proofs.Laws.{vote-carried, vote-none, vote-is, confidence-2, confidence-0, confidence-le, places-support, graded-counts, graded-firm}
+use Rattle.tally.proofs.Laws.{vote-carried, vote-none, vote-is, confidence-2, confidence-0, places-support, graded-counts, graded-firm}
 use Rattle.gradecast.specs.Steps.{place1, place2, place3, sends, hears, heard1, heard2, column2, voted, heard3, column3, confidence, gradeRow}
 use Rattle.gradecast.specs.Fair.{SoundBox, Fair, Gradecast, faultyBoxes}
+use Rattle.gradecast.proofs.Grades.{positive, at-most-2, row-not-zero}
 use Rattle.gradecast.proofs.Listed.{listed-heard1}
 use Rattle.gradecast.proofs.Near.{sound-not-faulty, not-faulty-sound, all-places, no-places, near}
-
-positive : {c : ℕ} → (c ≡ 0 → ⊥) → 1 ≤ c
-positive z = omega (arith, z)
 
 -- a sound box whose row in the column is v
 record Witness (n faulty : ℕ) (f : ℕ → ℕ) (v : ℕ) : Type 0 where
@@ -181,11 +179,6 @@ module _ {n t faulty : ℕ} {rows lists : List ℕ} (fair : Fair n t faulty rows
       let w = grade-witness (fair .tolerated) (fair .few) (λ l. heard3 n t faulty rows lists table i l k) z in
       record { at = w .at; box-sound = w .box-sound; here = sym (heard3-is i (w .at) k si (w .box-sound)) ∙ w .here }
 
-  row-not-zero : (i k : ℕ) → (confidence n t faulty rows lists table i k ≡ 0 → ⊥) →
-      gradeRow n t faulty rows lists table i k ≡ 0 → ⊥
-  unfolding confidence gradeRow
-  row-not-zero i k z = graded-counts t (column3 n t faulty rows lists table i k) z .0
-
   -- two sound boxes that count a leader each count a sound box's vote
   counts-once : (i j k : ℕ) → SoundBox n faulty i → SoundBox n faulty j →
       (confidence n t faulty rows lists table i k ≡ 0 → ⊥) → (confidence n t faulty rows lists table j k ≡ 0 → ⊥) →
@@ -195,8 +188,8 @@ module _ {n t faulty : ℕ} {rows lists : List ℕ} (fair : Fair n t faulty rows
       let b = voter j k sj z in
       sym (a .here)
       ∙ votes-once (a .at) (b .at) k (a .box-sound) (b .box-sound)
-      (λ e. row-not-zero i k y (sym (a .here) ∙ e))
-      (λ e. row-not-zero j k z (sym (b .here) ∙ e))
+      (λ e. row-not-zero n t faulty rows lists table i k y (sym (a .here) ∙ e))
+      (λ e. row-not-zero n t faulty rows lists table j k z (sym (b .here) ∙ e))
       ∙ b .here
 
   never-none : (i j k : ℕ) → SoundBox n faulty i → SoundBox n faulty j →
@@ -234,8 +227,8 @@ module _ {n t faulty : ℕ} {rows lists : List ℕ} (fair : Fair n t faulty rows
             (positive z, counts-once j i k sj si z (λ e. absurd (omega arith)));
         split-weak =
             λ i j k si sj none.
-            let low = confidence-le t (column3 n t faulty rows lists table j k) in
-            let z : confidenceOf t (column3 n t faulty rows lists table j k) ≡ 2 → ⊥ = λ two. never-none j i k sj si two none in
+            let low = at-most-2 n t faulty rows lists table j k in
+            let z : confidence n t faulty rows lists table j k ≡ 2 → ⊥ = λ two. never-none j i k sj si two none in
             omega (arith, z);
         all-listed = all-silent;
       }

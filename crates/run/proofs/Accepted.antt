@@ -38,33 +38,34 @@ module _ (s : Run) (table : List ℕ) where
       let h12 = accepted 11 (ltb (s .t) (s .done)) _ (h11 .1) in
       let h14 = accepted 13 (any 13 (badPlace s) || tooManySent s) _ (h12 .1) in
       record {
-      legal =
-        record {
-        pass4 = h4 .0;
-        pass5 = h5 .0;
-        pass6 = h6 .0;
-        pass9 = h9 .0;
-        pass14-places = or-false-left (any 13 (badPlace s)) (tooManySent s) (h14 .0);
-        pass14-sent = or-false-right (any 13 (badPlace s)) (tooManySent s) (h14 .0)
-        };
-      rows-of-table =
-        eqb-true (length table) (tableRows (s .n)) (not-false (eqb (length table) (tableRows (s .n))) (h11 .0));
-      done-few = ltb-false (s .t) (s .done) (h12 .0)
+        legal =
+            record {
+              pass4 = h4 .0;
+              pass5 = h5 .0;
+              pass6 = h6 .0;
+              pass9 = h9 .0;
+              pass14-places = or-false-left (any 13 (badPlace s)) (tooManySent s) (h14 .0);
+              pass14-sent = or-false-right (any 13 (badPlace s)) (tooManySent s) (h14 .0);
+            };
+        rows-of-table =
+            eqb-true (length table) (tableRows (s .n)) (not-false (eqb (length table) (tableRows (s .n))) (h11 .0));
+        done-few = ltb-false (s .t) (s .done) (h12 .0);
       }
 
   pub accepted-is : Accepted s table → iterateRefusal s table ≡ 0
   unfolding iterateRefusal firstOf
   accepted-is a =
       let l = a .legal in
-      rw
-      (l .pass4,
-      l .pass5,
-      l .pass6,
-      l .pass9,
-      eq-eqb (length table) (tableRows (s .n)) (a .rows-of-table),
-      le-ltb (s .t) (s .done) (a .done-few),
-      l .pass14-places,
-      l .pass14-sent)
+      rw (
+        l .pass4,
+        l .pass5,
+        l .pass6,
+        l .pass9,
+        eq-eqb (length table) (tableRows (s .n)) (a .rows-of-table),
+        le-ltb (s .t) (s .done) (a .done-few),
+        l .pass14-places,
+        l .pass14-sent,
+      )
       refl
 
 -- a start that is not refused
@@ -85,11 +86,11 @@ module _ (n t faulty : ℕ) (rows : List ℕ) where
       let h11 = accepted 10 (not (eqb (length rows) n)) _ (h6 .1) in
       let h9 = accepted 8 (soundZero n faulty rows) _ (h11 .1) in
       record {
-      pass4 = h4 .0;
-      pass5 = h5 .0;
-      pass6 = h6 .0;
-      pass11 = eqb-true (length rows) n (not-false (eqb (length rows) n) (h11 .0));
-      pass9 = h9 .0
+        pass4 = h4 .0;
+        pass5 = h5 .0;
+        pass6 = h6 .0;
+        pass11 = eqb-true (length rows) n (not-false (eqb (length rows) n) (h11 .0));
+        pass9 = h9 .0;
       }
 
   pub start-accepted-is : StartAccepted n t faulty rows → startRefusal n t faulty rows ≡ 0

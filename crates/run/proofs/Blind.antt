@@ -65,13 +65,13 @@ module _ (s : Run) (a b : List ℕ) (same : SameLies (s .n) (s .faulty) a b) whe
   next-same =
       λ d.
       record {
-      n = s .n;
-      t = s .t;
-      faulty = s .faulty;
-      done = s .done + 1;
-      sent = s .sent + messages-same (s .n) (s .t) (s .faulty) (s .rows) (s .lists) a b same d;
-      rows = places-same (newRow s a) (newRow s b) new-row-same d;
-      lists = places-same (newList s a) (newList s b) new-list-same d
+        n = s .n;
+        t = s .t;
+        faulty = s .faulty;
+        done = s .done + 1;
+        sent = s .sent + messages-same (s .n) (s .t) (s .faulty) (s .rows) (s .lists) a b same d;
+        rows = places-same (newRow s a) (newRow s b) new-row-same d;
+        lists = places-same (newList s a) (newList s b) new-list-same d;
       }
 
   refusal-same : length a ≡ length b → iterateRefusal s a ≡ iterateRefusal s b

@@ -26,7 +26,6 @@ use Rattle.run.specs.Iteration.{confidences, newList, nextRun}
 use Rattle.run.specs.State.{startRefusal, startRun, startReply, zeros, badPlace, tooManySent, iterateRefusal, iterateReply}
 use Rattle.run.specs.Legal.{Legal}
 use Rattle.run.proofs.Kept.{start-row, start-list, start-unused, next-row, next-list, next-unused, new-row-not-zero}
-
 use Rattle.run.proofs.Accepted.{StartAccepted, is-accepted, is-start-accepted, rows-not-zero, not-zero-rows}
 
 -- refusal 14: what a place must hold
@@ -41,8 +40,8 @@ good-place s k inner outer = go (ltb k (s .n) && sound (s .faulty) k) refl
     go true e =
         lt-within (s .n) (getD (s .lists) k 0)
         (inner (record {
-        below = ltb-true k (s .n) (and-left (ltb k (s .n)) (sound (s .faulty) k) e);
-        is-sound = and-right (ltb k (s .n)) (sound (s .faulty) k) e
+          below = ltb-true k (s .n) (and-left (ltb k (s .n)) (sound (s .faulty) k) e);
+          is-sound = and-right (ltb k (s .n)) (sound (s .faulty) k) e;
         }))
     go false e =
         or-none
@@ -70,24 +69,25 @@ module _ (s : Run) (table : List ℕ) (legal : Legal s) where
   unfolding tooManySent nextRun
   next-sent =
       le-ltb ((s .done + 1) * tableRows (s .n)) (s .sent + messages (s .n) (s .t) (s .faulty) (s .rows) (s .lists) table)
-      (omega
-      (arith,
-      add-mul (s .done) 1 (tableRows (s .n)),
-      ltb-false (s .done * tableRows (s .n)) (s .sent) (legal .pass14-sent),
-      messages-bound (s .n) (s .t) (s .faulty) (s .rows) (s .lists) table))
+      (omega (
+        arith,
+        add-mul (s .done) 1 (tableRows (s .n)),
+        ltb-false (s .done * tableRows (s .n)) (s .sent) (legal .pass14-sent),
+        messages-bound (s .n) (s .t) (s .faulty) (s .rows) (s .lists) table,
+      ))
 
   pub next-legal : Legal (nextRun s table)
   unfolding nextRun
   next-legal =
       record {
-      pass4 = legal .pass4;
-      pass5 = legal .pass5;
-      pass6 = legal .pass6;
-      pass9 = not-zero-rows (s .n) (s .faulty) (nextRun s table .rows) next-not-zero;
-      pass14-places =
-        none-any 13 (badPlace (nextRun s table))
-        (λ k l. good-place (nextRun s table) k (next-within k) (next-unused s table k l));
-      pass14-sent = next-sent
+        pass4 = legal .pass4;
+        pass5 = legal .pass5;
+        pass6 = legal .pass6;
+        pass9 = not-zero-rows (s .n) (s .faulty) (nextRun s table .rows) next-not-zero;
+        pass14-places =
+            none-any 13 (badPlace (nextRun s table))
+            (λ k l. good-place (nextRun s table) k (next-within k) (next-unused s table k l));
+        pass14-sent = next-sent;
       }
 
 -- the state after a start that was not refused
@@ -101,17 +101,17 @@ module _ (n t faulty : ℕ) (rows : List ℕ) (a : StartAccepted n t faulty rows
   unfolding startRun tooManySent
   start-legal =
       record {
-      pass4 = a .pass4;
-      pass5 = a .pass5;
-      pass6 = a .pass6;
-      pass9 = not-zero-rows n faulty (startRun n t faulty rows .rows) start-not-zero;
-      pass14-places =
-        none-any 13 (badPlace (startRun n t faulty rows))
-        (λ k l.
-        good-place (startRun n t faulty rows) k
-        (λ b. subst (λ (list : ℕ). list < 2 ^ n) (sym (start-list n t faulty rows k l)) (pow-pos n))
-        (λ e. (start-unused n t faulty rows k l e, start-list n t faulty rows k l)));
-      pass14-sent = le-ltb (0 * tableRows n) 0 (omega arith)
+        pass4 = a .pass4;
+        pass5 = a .pass5;
+        pass6 = a .pass6;
+        pass9 = not-zero-rows n faulty (startRun n t faulty rows .rows) start-not-zero;
+        pass14-places =
+            none-any 13 (badPlace (startRun n t faulty rows))
+            (λ k l.
+            good-place (startRun n t faulty rows) k
+            (λ b. subst (λ (list : ℕ). list < 2 ^ n) (sym (start-list n t faulty rows k l)) (pow-pos n))
+            (λ e. (start-unused n t faulty rows k l e, start-list n t faulty rows k l)));
+        pass14-sent = le-ltb (0 * tableRows n) 0 (omega arith);
       }
 
 -- the replies

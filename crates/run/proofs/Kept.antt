@@ -17,9 +17,10 @@ use Rattle.counting.proofs.Build.{length-build, getD-build}
 use Rattle.counting.proofs.Sets.{member-setOf}
 use Rattle.counting.specs.Most.{most}
 use Rattle.tally.specs.Tally.{chosenRow}
-use Rattle.tally.proofs.Laws.{graded-none, chosen-all}
-use Rattle.gradecast.specs.Steps.{sound, column3, confidence, gradeRow}
+use Rattle.tally.proofs.Laws.{chosen-all}
+use Rattle.gradecast.specs.Steps.{sound, confidence, gradeRow}
 use Rattle.gradecast.specs.Fair.{SoundBox}
+use Rattle.gradecast.proofs.Grades.{row-none}
 use Rattle.run.specs.declared.Run.{Run}
 use Rattle.run.specs.State.{startRow, startRun}
 use Rattle.run.specs.Iteration.{gradedRows, confidences, newRow, newList, entry, nextRun}
@@ -67,19 +68,18 @@ module _ (s : Run) (table : List ℕ) where
 
   -- the row that was chosen is the one found most often among the graded rows
   pub chosen-is : (i : ℕ) → chosenRow (gradedRows s table i) (confidences s table i) ≡ most (gradedRows s table i)
-  unfolding gradedRows confidences gradeRow confidence
+  unfolding gradedRows confidences
   chosen-is i =
       chosen-all (gradedRows s table i) (confidences s table i)
       (λ k l e.
       let b : k < s .n = omega (arith, length-build (s .n) row) in
-      getD-build (s .n) row k 0 b ∙ row-zero k (sym (getD-build (s .n) sure k 0 b) ∙ e))
+      getD-build (s .n) row k 0 b ∙ row-none (s .n) (s .t) (s .faulty) (s .rows) (s .lists) table i k (sym (getD-build (s .n) sure k 0 b) ∙ e))
     where
       row : ℕ → ℕ
       row k = gradeRow (s .n) (s .t) (s .faulty) (s .rows) (s .lists) table i k
+
       sure : ℕ → ℕ
       sure k = confidence (s .n) (s .t) (s .faulty) (s .rows) (s .lists) table i k
-      row-zero : (k : ℕ) → sure k ≡ 0 → row k ≡ 0
-      row-zero k e = graded-none (s .t) (column3 (s .n) (s .t) (s .faulty) (s .rows) (s .lists) table i k) e
 
   pub new-row-not-zero : (k : ℕ) → (getD (s .rows) k 0 ≡ 0 → ⊥) → newRow s table k ≡ 0 → ⊥
   unfolding newRow
