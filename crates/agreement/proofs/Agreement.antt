@@ -58,7 +58,7 @@ module _ (n t faulty : ℕ) (rows : List ℕ) (tables : ℕ → List ℕ) (setti
   accepted-start =
       record {
         pass4 = inside n (setting .from-1) (setting .to-13);
-        pass5 = tolerated n t (setting .tolerated);
+        pass5 = tolerated n t (omega (arith, setting .tolerated));
         pass6 = lt-within n faulty (setting .within);
         pass11 = setting .given;
         pass9 = not-zero-rows n faulty rows (λ k b e. absurd (omega (arith, setting .none-zero k b)));
@@ -75,7 +75,7 @@ module _ (n t faulty : ℕ) (rows : List ℕ) (tables : ℕ → List ℕ) (setti
         legal = start-legal n t faulty rows accepted-start;
         fair =
             record {
-              tolerated = setting .tolerated;
+              tolerated = omega (arith, setting .tolerated);
               few = omega (arith, setting .few);
               none-listed =
                   λ i k si sk.

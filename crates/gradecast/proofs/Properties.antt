@@ -126,6 +126,25 @@ module _ {n t faulty : ℕ} (tolerated : 3 * t < n) (few : faultyBoxes n faulty 
           (omega (arith, above, graded-counts t (build n f) z .1, places-build n f v))
 
 module _ {n t faulty : ℕ} {rows lists : List ℕ} (fair : Fair n t faulty rows lists) (table : List ℕ) where
+  -- the document's V, X, Y, Z and the grades
+  abbrev Vof : ℕ → ℕ → ℕ
+  Vof = heard1 n t faulty rows lists table
+
+  abbrev Xof : ℕ → ℕ → ℕ → ℕ
+  Xof = heard2 n t faulty rows lists table
+
+  abbrev Yof : ℕ → ℕ → ℕ
+  Yof = voted n t faulty rows lists table
+
+  abbrev Zof : ℕ → ℕ → ℕ → ℕ
+  Zof = heard3 n t faulty rows lists table
+
+  abbrev sure : ℕ → ℕ → ℕ
+  sure = confidence n t faulty rows lists table
+
+  abbrev graded : ℕ → ℕ → ℕ
+  graded = gradeRow n t faulty rows lists table
+
   -- a sound box hears what a sound box sends
   hears-sound : (i j place m : ℕ) → SoundBox n faulty i → SoundBox n faulty j →
       hears n t faulty rows lists table i j (sends n t faulty rows lists table j place m) ≡ m
@@ -133,56 +152,56 @@ module _ {n t faulty : ℕ} {rows lists : List ℕ} (fair : Fair n t faulty rows
   hears-sound i j place m si sj =
       rw (fair .none-listed i j si sj, sound-not-faulty faulty j (sj .is-sound)) refl
 
-  heard1-is : (i k : ℕ) → SoundBox n faulty i → SoundBox n faulty k → heard1 n t faulty rows lists table i k ≡ getD rows k 0
+  heard1-is : (i k : ℕ) → SoundBox n faulty i → SoundBox n faulty k → Vof i k ≡ getD rows k 0
   unfolding heard1
   heard1-is i k si sk = hears-sound i k (place1 n k i) (getD rows k 0) si sk
 
   heard2-is : (i j k : ℕ) → SoundBox n faulty i → SoundBox n faulty j →
-      heard2 n t faulty rows lists table i j k ≡ heard1 n t faulty rows lists table j k
+      Xof i j k ≡ Vof j k
   unfolding heard2
-  heard2-is i j k si sj = hears-sound i j (place2 n j i k) (heard1 n t faulty rows lists table j k) si sj
+  heard2-is i j k si sj = hears-sound i j (place2 n j i k) (Vof j k) si sj
 
   heard3-is : (i j k : ℕ) → SoundBox n faulty i → SoundBox n faulty j →
-      heard3 n t faulty rows lists table i j k ≡ voted n t faulty rows lists table j k
+      Zof i j k ≡ Yof j k
   unfolding heard3
-  heard3-is i j k si sj = hears-sound i j (place3 n j i k) (voted n t faulty rows lists table j k) si sj
+  heard3-is i j k si sj = hears-sound i j (place3 n j i k) (Yof j k) si sj
 
   -- a sound leader's row is every sound box's vote
-  sound-voted : (i k : ℕ) → SoundBox n faulty i → SoundBox n faulty k → voted n t faulty rows lists table i k ≡ getD rows k 0
+  sound-voted : (i k : ℕ) → SoundBox n faulty i → SoundBox n faulty k → Yof i k ≡ getD rows k 0
   unfolding voted column2
   sound-voted i k si sk =
-      vote-all (fair .tolerated) (fair .few) (λ j. heard2 n t faulty rows lists table i j k) (getD rows k 0) (fair .none-zero k sk)
+      vote-all (fair .tolerated) (fair .few) (λ j. Xof i j k) (getD rows k 0) (fair .none-zero k sk)
       (λ j sj. heard2-is i j k si sj ∙ heard1-is j k sj sk)
 
   -- two sound boxes see the same at the sound boxes, in step 3 and in step 4
   same-heard2 : (i j k : ℕ) → SoundBox n faulty i → SoundBox n faulty j → (l : ℕ) → SoundBox n faulty l →
-      heard2 n t faulty rows lists table i l k ≡ heard2 n t faulty rows lists table j l k
+      Xof i l k ≡ Xof j l k
   same-heard2 i j k si sj l sl = heard2-is i l k si sl ∙ sym (heard2-is j l k sj sl)
 
   same-heard3 : (i j k : ℕ) → SoundBox n faulty i → SoundBox n faulty j → (l : ℕ) → SoundBox n faulty l →
-      heard3 n t faulty rows lists table i l k ≡ heard3 n t faulty rows lists table j l k
+      Zof i l k ≡ Zof j l k
   same-heard3 i j k si sj l sl = heard3-is i l k si sl ∙ sym (heard3-is j l k sj sl)
 
   votes-once : (i j k : ℕ) → SoundBox n faulty i → SoundBox n faulty j →
-      (voted n t faulty rows lists table i k ≡ 0 → ⊥) → (voted n t faulty rows lists table j k ≡ 0 → ⊥) →
-      voted n t faulty rows lists table i k ≡ voted n t faulty rows lists table j k
+      (Yof i k ≡ 0 → ⊥) → (Yof j k ≡ 0 → ⊥) →
+      Yof i k ≡ Yof j k
   unfolding voted column2
   votes-once i j k si sj y z =
-      vote-one (fair .tolerated) (fair .few) (λ l. heard2 n t faulty rows lists table i l k)
-      (λ l. heard2 n t faulty rows lists table j l k) (same-heard2 i j k si sj) y z
+      vote-one (fair .tolerated) (fair .few) (λ l. Xof i l k)
+      (λ l. Xof j l k) (same-heard2 i j k si sj) y z
 
   -- a row that counts at a sound box is a sound box's vote
-  voter : (i k : ℕ) → SoundBox n faulty i → (confidence n t faulty rows lists table i k ≡ 0 → ⊥) →
-      Witness n faulty (λ l. voted n t faulty rows lists table l k) (gradeRow n t faulty rows lists table i k)
+  voter : (i k : ℕ) → SoundBox n faulty i → (sure i k ≡ 0 → ⊥) →
+      Witness n faulty (λ l. Yof l k) (graded i k)
   unfolding confidence gradeRow column3
   voter i k si z =
-      let w = grade-witness (fair .tolerated) (fair .few) (λ l. heard3 n t faulty rows lists table i l k) z in
+      let w = grade-witness (fair .tolerated) (fair .few) (λ l. Zof i l k) z in
       record { at = w .at; box-sound = w .box-sound; here = sym (heard3-is i (w .at) k si (w .box-sound)) ∙ w .here }
 
   -- two sound boxes that count a leader each count a sound box's vote
   counts-once : (i j k : ℕ) → SoundBox n faulty i → SoundBox n faulty j →
-      (confidence n t faulty rows lists table i k ≡ 0 → ⊥) → (confidence n t faulty rows lists table j k ≡ 0 → ⊥) →
-      gradeRow n t faulty rows lists table i k ≡ gradeRow n t faulty rows lists table j k
+      (sure i k ≡ 0 → ⊥) → (sure j k ≡ 0 → ⊥) →
+      graded i k ≡ graded j k
   counts-once i j k si sj y z =
       let a = voter i k si y in
       let b = voter j k sj z in
@@ -193,21 +212,21 @@ module _ {n t faulty : ℕ} {rows lists : List ℕ} (fair : Fair n t faulty rows
       ∙ b .here
 
   never-none : (i j k : ℕ) → SoundBox n faulty i → SoundBox n faulty j →
-      confidence n t faulty rows lists table i k ≡ 2 → confidence n t faulty rows lists table j k ≡ 0 → ⊥
+      sure i k ≡ 2 → sure j k ≡ 0 → ⊥
   unfolding confidence column3
   never-none i j k si sj =
-      grade-near (fair .tolerated) (fair .few) (λ l. heard3 n t faulty rows lists table i l k)
-      (λ l. heard3 n t faulty rows lists table j l k) (same-heard3 i j k si sj)
+      grade-near (fair .tolerated) (fair .few) (λ l. Zof i l k)
+      (λ l. Zof j l k) (same-heard3 i j k si sj)
 
   -- a leader on every sound list: nothing of it is heard, so nothing is sent on
   all-silent : (k : ℕ) → ((i : ℕ) → SoundBox n faulty i → member (getD lists i 0) k ≡ true) →
-      (i : ℕ) → SoundBox n faulty i → confidence n t faulty rows lists table i k ≡ 0
+      (i : ℕ) → SoundBox n faulty i → sure i k ≡ 0
   unfolding confidence column3 voted column2
   all-silent k h i si =
-      grade-silent (fair .tolerated) (fair .few) (λ j. heard3 n t faulty rows lists table i j k)
+      grade-silent (fair .tolerated) (fair .few) (λ j. Zof i j k)
       (λ j sj.
       heard3-is i j k si sj
-      ∙ vote-silent (fair .tolerated) (fair .few) (λ l. heard2 n t faulty rows lists table j l k)
+      ∙ vote-silent (fair .tolerated) (fair .few) (λ l. Xof j l k)
       (λ l sl. heard2-is j l k sj sl ∙ listed-heard1 n t faulty rows lists table l k (h l sl)))
 
   -- the promises
@@ -217,7 +236,7 @@ module _ {n t faulty : ℕ} {rows lists : List ℕ} (fair : Fair n t faulty rows
       record {
         sound-leader =
             λ i k si sk.
-            grade-all (fair .tolerated) (fair .few) (λ j. heard3 n t faulty rows lists table i j k) (getD rows k 0)
+            grade-all (fair .tolerated) (fair .few) (λ j. Zof i j k) (getD rows k 0)
             (fair .none-zero k sk) (λ j sj. heard3-is i j k si sj ∙ sound-voted j k sj sk);
         one-vote = votes-once;
         one-row = counts-once;
@@ -228,7 +247,7 @@ module _ {n t faulty : ℕ} {rows lists : List ℕ} (fair : Fair n t faulty rows
         split-weak =
             λ i j k si sj none.
             let low = at-most-2 n t faulty rows lists table j k in
-            let z : confidence n t faulty rows lists table j k ≡ 2 → ⊥ = λ two. never-none j i k sj si two none in
+            let z : sure j k ≡ 2 → ⊥ = λ two. never-none j i k sj si two none in
             omega (arith, z);
         all-listed = all-silent;
       }

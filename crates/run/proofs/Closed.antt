@@ -11,15 +11,16 @@ use native.Mathlib.Omega.{arith}
 use lib.Dec.{eqb, ltb}
 use lib.ListN.{getD}
 use lib.Pow.{pow-pos}
-use borrow.Author.Tests.{eq-eqb, ltb-true, ltb-false, le-ltb}
+use borrow.Author.Tests.{eq-eqb, ltb-false, le-ltb}
 use Rattle.counting.specs.Sets.{member}
-use Rattle.counting.proofs.Bools.{not-of-true, or-none, cond-true, and-left, and-right}
+use Rattle.counting.proofs.Bools.{never, not-of-true, or-none, cond-true}
 use Rattle.counting.proofs.Count.{none-any}
 use Rattle.counting.proofs.Sets.{setOf-lt}
 use Rattle.sizes.specs.Sizes.{stray, tableRows}
 use Rattle.sizes.proofs.Laws.{inside-high, lt-within}
 use Rattle.gradecast.specs.Steps.{sound, messages}
 use Rattle.gradecast.specs.Fair.{SoundBox, SoundRowsNotZero}
+use Rattle.gradecast.proofs.Near.{is-box, box-is}
 use Rattle.gradecast.proofs.Messages.{messages-bound}
 use Rattle.run.specs.declared.Run.{Run}
 use Rattle.run.specs.Iteration.{confidences, newList, nextRun}
@@ -30,23 +31,17 @@ use Rattle.run.proofs.Accepted.{StartAccepted, is-accepted, is-start-ac
 
 -- refusal 14: what a place must hold
 good-place : (s : Run) (k : ℕ) → (SoundBox (s .n) (s .faulty) k → getD (s .lists) k 0 < 2 ^ s .n) →
-    ((ltb k (s .n) && sound (s .faulty) k) ≡ false → (getD (s .rows) k 0 ≡ 0) × (getD (s .lists) k 0 ≡ 0)) →
+    ((SoundBox (s .n) (s .faulty) k → ⊥) → (getD (s .rows) k 0 ≡ 0) × (getD (s .lists) k 0 ≡ 0)) →
     badPlace s k ≡ false
 unfolding badPlace
 good-place s k inner outer = go (ltb k (s .n) && sound (s .faulty) k) refl
   where
     go : (b : Bool) → (ltb k (s .n) && sound (s .faulty) k) ≡ b →
         cond b (stray (s .n) (getD (s .lists) k 0)) (not (eqb (getD (s .rows) k 0) 0) || not (eqb (getD (s .lists) k 0) 0)) ≡ false
-    go true e =
-        lt-within (s .n) (getD (s .lists) k 0)
-        (inner (record {
-          below = ltb-true k (s .n) (and-left (ltb k (s .n)) (sound (s .faulty) k) e);
-          is-sound = and-right (ltb k (s .n)) (sound (s .faulty) k) e;
-        }))
+    go true e = lt-within (s .n) (getD (s .lists) k 0) (inner (box-is (s .n) (s .faulty) k e))
     go false e =
-        or-none
-        (not-of-true (eq-eqb (getD (s .rows) k 0) 0 (outer e .0)))
-        (not-of-true (eq-eqb (getD (s .lists) k 0) 0 (outer e .1)))
+        let z = outer (λ b. never (is-box b) e) in
+        or-none (not-of-true (eq-eqb (getD (s .rows) k 0) 0 (z .0))) (not-of-true (eq-eqb (getD (s .lists) k 0) 0 (z .1)))
 
 -- the state after an iteration that was not refused
 module _ (s : Run) (table : List ℕ) (legal : Legal s) where

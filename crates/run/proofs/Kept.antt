@@ -1,18 +1,19 @@
--- The places of a start, and of the next state. A sound box's place holds its new row and its new list, every other place 0. A new row is a
--- row that was chosen or the old row, so it is not 0 where the old row was not. A new list holds the old members and the
+-- The places of a start, and of the next state. A sound box's place holds its row and its list, every other place 0. A new row
+-- is a row that was chosen or the old row, so it is not 0 where the old row was not. A new list holds the old members and the
 -- leaders with confidence 0 or 1.
 -- Assumes nothing.
 use mathlib.Core.Path.{_≡_, refl, sym, ap, _∙_}
 use mathlib.Core.Bool.{Bool, true, false, cond, _&&_, _||_}
 use mathlib.Core.List.{List}
+use mathlib.Core.Logic.{⊎-elim}
 use Prim.Native.Nat.{ℕ, _≤_, _<_}
 use native.Mathlib.Omega.{arith}
 use lib.Dec.{eqb, ltb}
 use lib.ListN.{getD, getD-replicate}
-use borrow.Author.Tests.{eqb-false, lt-ltb}
+use borrow.Author.Tests.{eqb-false}
 use Rattle.counting.specs.Count.{build}
 use Rattle.counting.specs.Sets.{member}
-use Rattle.counting.proofs.Bools.{both, or-true-left, cond-true, cond-false}
+use Rattle.counting.proofs.Bools.{either, or-true-left, cond-true, cond-false}
 use Rattle.counting.proofs.Build.{length-build, getD-build}
 use Rattle.counting.proofs.Sets.{member-setOf}
 use Rattle.counting.specs.Most.{most}
@@ -21,9 +22,13 @@ use Rattle.tally.proofs.Laws.{chosen-all}
 use Rattle.gradecast.specs.Steps.{sound, confidence, gradeRow}
 use Rattle.gradecast.specs.Fair.{SoundBox}
 use Rattle.gradecast.proofs.Grades.{row-none}
+use Rattle.gradecast.proofs.Near.{is-box, box-is}
 use Rattle.run.specs.declared.Run.{Run}
 use Rattle.run.specs.State.{startRow, startRun}
 use Rattle.run.specs.Iteration.{gradedRows, confidences, newRow, newList, entry, nextRun}
+
+no-box : (n faulty k : ℕ) → (SoundBox n faulty k → ⊥) → (ltb k n && sound faulty k) ≡ false
+no-box n faulty k h = ⊎-elim (λ t. absurd (h (box-is n faulty k t))) (λ f. f) (either (ltb k n && sound faulty k))
 
 module _ (n t faulty : ℕ) (rows : List ℕ) where
   pub start-row : (k : ℕ) → n ≤ 13 → SoundBox n faulty k → getD (startRun n t faulty rows .rows) k 0 ≡ getD rows k 0
@@ -31,11 +36,11 @@ module _ (n t faulty : ℕ) (rows : List ℕ) where
   start-row k h b =
       let l = b .below in
       getD-build 13 (startRow n faulty rows) k 0 (omega arith)
-      ∙ cond-true (getD rows k 0) 0 (both (lt-ltb k n (b .below)) (b .is-sound))
+      ∙ cond-true (getD rows k 0) 0 (is-box b)
 
-  pub start-unused : (k : ℕ) → k < 13 → (ltb k n && sound faulty k) ≡ false → getD (startRun n t faulty rows .rows) k 0 ≡ 0
+  pub start-unused : (k : ℕ) → k < 13 → (SoundBox n faulty k → ⊥) → getD (startRun n t faulty rows .rows) k 0 ≡ 0
   unfolding startRun startRow
-  start-unused k l h = getD-build 13 (startRow n faulty rows) k 0 l ∙ cond-false (getD rows k 0) 0 h
+  start-unused k l h = getD-build 13 (startRow n faulty rows) k 0 l ∙ cond-false (getD rows k 0) 0 (no-box n faulty k h)
 
   pub start-list : (k : ℕ) → k < 13 → getD (startRun n t faulty rows .lists) k 0 ≡ 0
   unfolding startRun
@@ -47,7 +52,7 @@ module _ (s : Run) (table : List ℕ) where
   placed f k h b =
       let l = b .below in
       getD-build 13 (entry s table f) k 0 (omega arith)
-      ∙ cond-true (f k) 0 (both (lt-ltb k (s .n) (b .below)) (b .is-sound))
+      ∙ cond-true (f k) 0 (is-box b)
 
   pub next-row : (k : ℕ) → s .n ≤ 13 → SoundBox (s .n) (s .faulty) k → getD (nextRun s table .rows) k 0 ≡ newRow s table k
   unfolding nextRun
@@ -58,13 +63,13 @@ module _ (s : Run) (table : List ℕ) where
   next-list = placed (newList s table)
 
   -- a faulty box's entry, and a place at n or above: row 0 and an empty list
-  pub next-unused : (k : ℕ) → k < 13 → (ltb k (s .n) && sound (s .faulty) k) ≡ false →
+  pub next-unused : (k : ℕ) → k < 13 → (SoundBox (s .n) (s .faulty) k → ⊥) →
       (getD (nextRun s table .rows) k 0 ≡ 0) × (getD (nextRun s table .lists) k 0 ≡ 0)
   unfolding nextRun entry
   next-unused k l h = (none (newRow s table), none (newList s table))
     where
       none : (f : ℕ → ℕ) → getD (build 13 (entry s table f)) k 0 ≡ 0
-      none f = getD-build 13 (entry s table f) k 0 l ∙ cond-false (f k) 0 h
+      none f = getD-build 13 (entry s table f) k 0 l ∙ cond-false (f k) 0 (no-box (s .n) (s .faulty) k h)
 
   -- the row that was chosen is the one found most often among the graded rows
   pub chosen-is : (i : ℕ) → chosenRow (gradedRows s table i) (confidences s table i) ≡ most (gradedRows s table i)

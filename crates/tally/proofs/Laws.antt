@@ -19,7 +19,7 @@ use Rattle.counting.specs.Most.{places, support, most}
 use Rattle.counting.proofs.Bools.{never, both, and-left, and-right, not-true, not-of-false, cond-true, cond-false}
 use Rattle.counting.proofs.Build.{length-build, getD-build, built}
 use Rattle.counting.proofs.Count.{find-cases}
-use Rattle.counting.proofs.Most.{Stands, IsMost, support-places, supported, most-is, most-stands, most-zero}
+use Rattle.counting.proofs.Most.{Stands, IsMost, support-places, supported, most-is, most-unique, most-stands, most-zero}
 use Rattle.counting.proofs.Places.{places-one, most-majority}
 use Rattle.tally.specs.Tally.{carried, voteOf, supportOf, confidenceOf, gradedRow, counted, chosenRow}
 
@@ -196,6 +196,12 @@ module _ (rows confidences : List ℕ) where
   pub chosen-most : IsMost (counted rows confidences) (chosenRow rows confidences)
   unfolding chosenRow
   chosen-most = most-is (counted rows confidences)
+
+  -- no other row is so
+  pub chosen-unique : (v : ℕ) → IsMost (counted rows confidences) v → (v ≡ 0 → ⊥) → 0 < support (counted rows confidences) v →
+      v ≡ chosenRow rows confidences
+  unfolding chosenRow
+  chosen-unique = most-unique (counted rows confidences)
 
   -- a chosen row is a leader's, whole, and that leader has confidence 1 or 2
   pub chosen-held : (chosenRow rows confidences ≡ 0 → ⊥) → Held rows confidences (chosenRow rows confidences)
