@@ -11,7 +11,7 @@ use Rattle.counting.specs.Count.{any, count}
 use Rattle.counting.specs.Sets.{member}
 use Rattle.counting.proofs.Bools.{either, never, not-true, not-false, not-of-false, not-of-true}
 use Rattle.counting.proofs.Count.{any-none, none-any, count-mono}
-use Rattle.gradecast.specs.Steps.{sound}
+use Rattle.sizes.specs.Sizes.{sound}
 use Rattle.gradecast.specs.Fair.{SoundBox, faultyBoxes, NoSoundListed}
 use Rattle.gradecast.proofs.Near.{not-faulty-sound}
 

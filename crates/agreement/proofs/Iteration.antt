@@ -22,8 +22,9 @@ use Rattle.counting.proofs.Build.{length-build, getD-build, build-ext}
 use Rattle.counting.proofs.Count.{Some, any-some, any-none, some-any, count-strict}
 use Rattle.counting.proofs.Most.{most-zero}
 use Rattle.counting.proofs.Places.{most-majority}
+use Rattle.sizes.specs.Sizes.{sound}
 use Rattle.sizes.proofs.Laws.{inside-high}
-use Rattle.gradecast.specs.Steps.{sound, confidence, gradeRow}
+use Rattle.gradecast.specs.Steps.{confidence, gradeRow}
 use Rattle.gradecast.specs.Fair.{SoundBox, Fair, Gradecast}
 use Rattle.gradecast.proofs.Grades.{row-none, positive}
 use Rattle.gradecast.proofs.Near.{all-places, near}

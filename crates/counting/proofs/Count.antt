@@ -7,6 +7,7 @@ use mathlib.Core.Logic._⊎_.{inl, inr}
 use Prim.Native.Nat.{ℕ, zero, suc, _+_, _*_, _≤_, _<_}
 use native.Mathlib.Nat.{le-refl, not-suc-le-zero, add-zero, mul-zero, mul-add, mul-comm, mul-suc, add-le-add}
 use native.Mathlib.Decide.{ℕ-discrete}
+use native.Mathlib.Numerals.{add-one}
 use native.Mathlib.Omega.{arith}
 use Rattle.counting.specs.Count.{sum, count, any, find}
 use Rattle.counting.proofs.Bools.{never, either, both, not-of-false, or-cases, or-false-left, or-false-right, or-none, and-left, and-right}
@@ -69,6 +70,15 @@ one-le : (b : Bool) → cond b 1 0 ≤ 1
 one-le true = omega arith
 one-le false = omega arith
 
+-- a loop's turn puts the highest index on, and the code counts by n + 1
+pub count-turn : (n : ℕ) (p : ℕ → Bool) {c r : ℕ} → c ≡ count n p → r ≡ cond (p n) 1 0 → c + r ≡ count (n + 1) p
+unfolding count
+count-turn n p h e = rw add-one (ap₂ _+_ h e)
+
+pub sum-turn : (n : ℕ) (f : ℕ → ℕ) {c r : ℕ} → c ≡ sum n f → r ≡ f n → c + r ≡ sum (n + 1) f
+unfolding sum
+sum-turn n f h e = rw add-one (ap₂ _+_ h e)
+
 implied : (a b : Bool) → (a ≡ true → b ≡ true) → cond a 1 0 ≤ cond b 1 0
 implied true b h = rw (h refl) (le-refl _)
 implied false b h = omega arith
@@ -83,6 +93,10 @@ pub count-le : (n : ℕ) (p : ℕ → Bool) → count n p ≤ n
 unfolding count
 count-le zero p = (le-refl _)
 count-le (suc n) p = omega (arith, count-le n p, one-le (p n))
+
+-- the counter of a loop is at most the turns made
+pub count-turn-le : (n : ℕ) (p : ℕ → Bool) {c r : ℕ} → c ≡ count n p → r ≡ cond (p n) 1 0 → c + r ≤ n + 1
+count-turn-le n p h e = omega (arith, h, e, count-le n p, one-le (p n))
 
 inclusion : (a b : Bool) → cond a 1 0 + cond b 1 0 ≡ cond (a || b) 1 0 + cond (a && b) 1 0
 inclusion true true = refl
@@ -259,3 +273,13 @@ find-cases (suc n) p f = go (p (f n)) refl (find-cases n p f)
         inl (rw e (record { at = w .at; below = omega arith; here = w .here; passes = w .passes }))
     go false e (inr w) =
         inr (rw e (w .0), λ k l. ⊎-elim (λ q. ap (λ (m : ℕ). p (f m)) q ∙ e) (λ b. w .1 k b) (at-or-below k n l))
+
+-- the turn of a loop that looks for a place, and has found none so far
+pub any-turn : (n : ℕ) (p : ℕ → Bool) → any n p ≡ false → p n ≡ false → any (n + 1) p ≡ false
+unfolding any
+any-turn n p h e = rw add-one (or-none h e)
+
+-- the turn of a loop that keeps the last element found
+pub find-turn : (n : ℕ) (p : ℕ → Bool) (f : ℕ → ℕ) {v r : ℕ} → v ≡ find n p f → r ≡ cond (p (f n)) (f n) v → r ≡ find (n + 1) p f
+unfolding find
+find-turn n p f h e = rw add-one (e ∙ ap (λ (w : ℕ). cond (p (f n)) (f n) w) h)

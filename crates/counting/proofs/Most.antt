@@ -6,16 +6,17 @@ use mathlib.Core.Bool.{Bool, true, false, cond, _&&_, _||_}
 use mathlib.Core.List.{List}
 use mathlib.Core.Logic.{_⊎_, ⊎-elim}
 use mathlib.Core.Logic._⊎_.{inl, inr}
-use Prim.Native.Nat.{ℕ, zero, suc, _≤_, _<_}
+use Prim.Native.Nat.{ℕ, zero, suc, _+_, _≤_, _<_}
 use native.Mathlib.Nat.{le-refl, le-trans, not-suc-le-zero, le-antisymm}
 use native.Mathlib.Decide.{ℕ-discrete}
+use native.Mathlib.Numerals.{add-one}
 use native.Mathlib.Omega.{arith}
 use lib.Dec.{eqb, ltb}
 use lib.ListN.{length, getD}
 use borrow.Author.Tests.{ltb-true, ltb-false, eqb-true, eqb-false, eq-eqb, ne-eqb, lt-ltb, le-ltb}
 use Rattle.counting.specs.Count.{count}
 use Rattle.counting.specs.Most.{places, support, before, best, most}
-use Rattle.counting.proofs.Bools.{either, never, or-cases, or-false-left, or-false-right, and-left, and-right, both, cond-true, cond-false}
+use Rattle.counting.proofs.Bools.{either, never, or-cases, or-false-left, or-false-right, and-left, and-right, and-false-right, both, not-both, or-none, or-true-left, cond-true, cond-false}
 use Rattle.counting.proofs.Count.{Some, count-some, some-count, at-or-below, count-le, count-none}
 
 -- 0 has no support, and any other number its places
@@ -189,3 +190,32 @@ most-unique xs w m z s =
     le-antisymm
     (m .lowest (most xs) (supported xs (most xs) (omega arith) .0) (sym same))
     (most-is xs .lowest w z same)
+
+-- nothing stands before itself
+pub before-self : (xs : List ℕ) (a : ℕ) → before xs a a ≡ false
+unfolding before
+before-self xs a =
+    or-none (le-ltb (support xs a) (support xs a) (le-refl _))
+    (and-false-right (eqb (support xs a) (support xs a)) (le-ltb a a (le-refl _)))
+
+-- which of two numbers stands before the other, from their supports
+module _ (xs : List ℕ) (a b : ℕ) where
+  pub before-more : support xs a < support xs b → before xs a b ≡ true
+  unfolding before
+  before-more h = or-true-left (eqb (support xs a) (support xs b) && ltb b a) (lt-ltb (support xs a) (support xs b) h)
+
+  pub before-fewer : support xs b < support xs a → before xs a b ≡ false
+  unfolding before
+  before-fewer h =
+      or-none (le-ltb (support xs a) (support xs b) (omega arith))
+      (not-both (ltb b a) (ne-eqb (support xs a) (support xs b) (λ e. absurd (omega arith))))
+
+  pub before-tie : support xs a ≡ support xs b → before xs a b ≡ ltb b a
+  unfolding before
+  before-tie e =
+      rw (le-ltb (support xs a) (support xs b) (omega arith), eq-eqb (support xs a) (support xs b) e) refl
+
+-- the turn of a loop that keeps the best so far
+pub best-turn : (xs : List ℕ) (k : ℕ) → best xs (k + 1) ≡ cond (before xs (best xs k) (getD xs k 0)) (getD xs k 0) (best xs k)
+unfolding best
+best-turn xs k = rw add-one refl

@@ -11,8 +11,9 @@ use Rattle.counting.specs.Count.{count}
 use Rattle.counting.specs.Sets.{member}
 use Rattle.counting.proofs.Build.{build-ext}
 use Rattle.counting.proofs.Count.{sum-ext, count-ext}
+use Rattle.sizes.specs.Sizes.{sound}
 use Rattle.tally.specs.Tally.{voteOf, confidenceOf, gradedRow}
-use Rattle.gradecast.specs.Steps.{sound, place1, place2, place3, sends, hears, heard1, heard2, column2, voted, heard3, column3, confidence, gradeRow, messages}
+use Rattle.gradecast.specs.Steps.{place1, place2, place3, sends, hears, heard1, heard2, column2, voted, heard3, column3, confidence, gradeRow, messages}
 use Rattle.gradecast.specs.Lies.{SameLies}
 use Rattle.gradecast.proofs.Messages.{sentByOne, messages-quick}
 

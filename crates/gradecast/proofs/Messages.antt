@@ -11,8 +11,8 @@ use lib.Dec.{eqb}
 use lib.ListN.{getD}
 use Rattle.counting.specs.Count.{sum, count}
 use Rattle.counting.proofs.Count.{sum-ext, sum-const, sum-scale, sum-at-most, count-le}
-use Rattle.sizes.specs.Sizes.{tableRows}
-use Rattle.gradecast.specs.Steps.{sound, heard1, voted, sentTo, messages}
+use Rattle.sizes.specs.Sizes.{tableRows, sound}
+use Rattle.gradecast.specs.Steps.{heard1, voted, sentTo, messages}
 
 module _ (n t faulty : ℕ) (rows lists table : List ℕ) where
   -- the non-zero rows that a sound box j sends to any one box

@@ -12,7 +12,7 @@ use Rattle.counting.specs.Most.{places}
 use Rattle.counting.proofs.Bools.{both, and-left, and-right, not-true, not-of-false}
 use Rattle.counting.proofs.Count.{count-mono, count-parted, count-all, count-none}
 use Rattle.counting.proofs.Places.{places-build}
-use Rattle.gradecast.specs.Steps.{sound}
+use Rattle.sizes.specs.Sizes.{sound}
 use Rattle.gradecast.specs.Fair.{SoundBox, faultyBoxes}
 
 -- a box that is not sound is faulty

@@ -7,7 +7,8 @@ use mathlib.Core.List.{List}
 use lib.ListN.{getD}
 use Rattle.counting.specs.Count.{count}
 use Rattle.counting.specs.Sets.{member}
-use Rattle.gradecast.specs.Steps.{sound, voted, confidence, gradeRow}
+use Rattle.sizes.specs.Sizes.{sound}
+use Rattle.gradecast.specs.Steps.{voted, confidence, gradeRow}
 
 -- box i is one of the n boxes, and sound
 pub record SoundBox (n faulty i : ℕ) : Type 0 where

@@ -7,11 +7,8 @@ use lib.Dec.{eqb}
 use lib.ListN.{getD}
 use Rattle.counting.specs.Count.{sum, count, build}
 use Rattle.counting.specs.Sets.{member}
+pub use Rattle.sizes.specs.Sizes.{sound}
 use Rattle.tally.specs.Tally.{voteOf, confidenceOf, gradedRow}
-
--- is box j sound?
-unfoldable pub sound : ℕ → ℕ → Bool
-sound faulty j = not (member faulty j)
 
 -- the table: n² rows for step 1 (sender, then receiver), then n³ for step 2 (sender, receiver, leader) and n³ for step 3
 unfoldable pub place1 : ℕ → ℕ → ℕ → ℕ

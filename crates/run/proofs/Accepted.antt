@@ -13,11 +13,10 @@ use Rattle.counting.specs.Refuse.{firstOf}
 use Rattle.counting.proofs.Bools.{not-false, or-false-left, or-false-right}
 use Rattle.counting.proofs.Count.{any-none, none-any}
 use Rattle.counting.proofs.Refuse.{accepted}
-use Rattle.sizes.specs.Sizes.{outside, tooMany, stray, tableRows}
-use Rattle.gradecast.specs.Steps.{sound}
+use Rattle.sizes.specs.Sizes.{outside, tooMany, stray, tableRows, sound, soundZero}
 use Rattle.gradecast.specs.Fair.{SoundRowsNotZero}
 use Rattle.run.specs.declared.Run.{Run}
-use Rattle.run.specs.State.{soundZero, startRefusal, badPlace, tooManySent, iterateRefusal}
+use Rattle.run.specs.State.{startRefusal, badPlace, tooManySent, iterateRefusal}
 use Rattle.run.specs.Legal.{Legal}
 
 -- a call that is not refused: the state is legal, the table has its length, and not all iterations are done

@@ -15,8 +15,9 @@ use Rattle.counting.specs.Sets.{member, setOf}
 use Rattle.counting.proofs.Bools.{and-left}
 use Rattle.counting.proofs.Build.{build-ext}
 use Rattle.counting.proofs.Count.{lower}
+use Rattle.sizes.specs.Sizes.{sound}
 use Rattle.tally.specs.Tally.{chosenRow}
-use Rattle.gradecast.specs.Steps.{sound, confidence, gradeRow}
+use Rattle.gradecast.specs.Steps.{confidence, gradeRow}
 use Rattle.gradecast.specs.Lies.{SameLies}
 use Rattle.gradecast.proofs.Blind.{confidence-same, grade-row-same, messages-same}
 use Rattle.run.specs.declared.Run.{Run}

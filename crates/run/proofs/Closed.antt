@@ -16,9 +16,9 @@ use Rattle.counting.specs.Sets.{member}
 use Rattle.counting.proofs.Bools.{never, not-of-true, or-none, cond-true}
 use Rattle.counting.proofs.Count.{none-any}
 use Rattle.counting.proofs.Sets.{setOf-lt}
-use Rattle.sizes.specs.Sizes.{stray, tableRows}
+use Rattle.sizes.specs.Sizes.{stray, tableRows, sound}
 use Rattle.sizes.proofs.Laws.{inside-high, lt-within}
-use Rattle.gradecast.specs.Steps.{sound, messages}
+use Rattle.gradecast.specs.Steps.{messages}
 use Rattle.gradecast.specs.Fair.{SoundBox, SoundRowsNotZero}
 use Rattle.gradecast.proofs.Near.{is-box, box-is}
 use Rattle.gradecast.proofs.Messages.{messages-bound}

@@ -17,9 +17,10 @@ use Rattle.counting.proofs.Bools.{either, or-true-left, cond-true, cond-false}
 use Rattle.counting.proofs.Build.{length-build, getD-build}
 use Rattle.counting.proofs.Sets.{member-setOf}
 use Rattle.counting.specs.Most.{most}
+use Rattle.sizes.specs.Sizes.{sound}
 use Rattle.tally.specs.Tally.{chosenRow}
 use Rattle.tally.proofs.Laws.{chosen-all}
-use Rattle.gradecast.specs.Steps.{sound, confidence, gradeRow}
+use Rattle.gradecast.specs.Steps.{confidence, gradeRow}
 use Rattle.gradecast.specs.Fair.{SoundBox}
 use Rattle.gradecast.proofs.Grades.{row-none}
 use Rattle.gradecast.proofs.Near.{is-box, box-is}

@@ -7,7 +7,8 @@ use lib.ListN.{getD}
 use Rattle.counting.specs.Count.{build}
 use Rattle.counting.specs.Sets.{member, setOf}
 use Rattle.tally.specs.Tally.{chosenRow}
-use Rattle.gradecast.specs.Steps.{sound, confidence, gradeRow, messages}
+use Rattle.sizes.specs.Sizes.{sound}
+use Rattle.gradecast.specs.Steps.{confidence, gradeRow, messages}
 use Rattle.run.specs.declared.Run.{Run}
 
 module _ (s : Run) (table : List ℕ) where

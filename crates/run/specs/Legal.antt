@@ -4,9 +4,9 @@ use Prim.Native.Nat.{ℕ}
 use mathlib.Core.Path.{_≡_}
 use mathlib.Core.Bool.{Bool, false}
 use Rattle.counting.specs.Count.{any}
-use Rattle.sizes.specs.Sizes.{outside, tooMany, stray}
+use Rattle.sizes.specs.Sizes.{outside, tooMany, stray, soundZero}
 use Rattle.run.specs.declared.Run.{Run}
-use Rattle.run.specs.State.{soundZero, badPlace, tooManySent}
+use Rattle.run.specs.State.{badPlace, tooManySent}
 
 pub record Legal (s : Run) : Type 0 where
   pub pass4 : outside (s .n) ≡ false

@@ -9,14 +9,11 @@ use Rattle.counting.specs.Sets.{member}
 use Rattle.counting.specs.Refuse.{Refusal, firstOf}
 use Rattle.counting.specs.Refuse.Refusal.{refuse}
 use Rattle.sizes.specs.Sizes.{outside, tooMany, stray, tableRows}
-use Rattle.gradecast.specs.Steps.{sound}
+pub use Rattle.sizes.specs.Sizes.{soundZero}
+use Rattle.sizes.specs.Sizes.{sound}
 use Rattle.run.specs.declared.Run.{Run}
 use Rattle.run.specs.declared.Next.{Next}
 use Rattle.run.specs.Iteration.{nextRun}
-
--- refusal 9: a sound box's row is 0
-unfoldable pub soundZero : ℕ → ℕ → List ℕ → Bool
-soundZero n faulty rows = any n (λ k. sound faulty k && eqb (getD rows k 0) 0)
 
 -- the places of a start that hold a row: sound boxes below n
 unfoldable pub startRow : ℕ → ℕ → List ℕ → ℕ → ℕ

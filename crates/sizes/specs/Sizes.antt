@@ -1,7 +1,11 @@
 -- The numbers that document 01 allows: boxes, the tolerated, a set of boxes, the rows of a table. Boxes count from 0 here.
 use Prim.Native.Nat.{ℕ, _+_, _-_, _*_, _/_, _^_}
-use mathlib.Core.Bool.{Bool, cond, _||_}
-use lib.Dec.{leb, ltb}
+use mathlib.Core.Bool.{Bool, cond, not, _&&_, _||_}
+use mathlib.Core.List.{List}
+use lib.Dec.{eqb, leb, ltb}
+use lib.ListN.{getD}
+use Rattle.counting.specs.Count.{any}
+use Rattle.counting.specs.Sets.{member}
 
 -- refusal 4: n outside 1 to 13
 unfoldable pub outside : ℕ → Bool
@@ -14,6 +18,14 @@ tooMany n t = leb n (3 * t)
 -- refusal 6: the set has a bit at place n or above
 unfoldable pub stray : ℕ → ℕ → Bool
 stray n set = leb (2 ^ n) set
+
+-- is box j sound, that is, not named faulty?
+unfoldable pub sound : ℕ → ℕ → Bool
+sound faulty j = not (member faulty j)
+
+-- refusal 9: a sound box's row is 0
+unfoldable pub soundZero : ℕ → ℕ → List ℕ → Bool
+soundZero n faulty rows = any n (λ k. sound faulty k && eqb (getD rows k 0) 0)
 
 -- the largest t with 3t less than n
 unfoldable pub largestT : ℕ → ℕ

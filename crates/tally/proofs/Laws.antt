@@ -13,15 +13,16 @@ use native.Mathlib.Decide.{ℕ-discrete}
 use native.Mathlib.Omega.{arith}
 use lib.Dec.{eqb, leb, ltb}
 use lib.ListN.{length, getD}
-use borrow.Author.Tests.{eqb-true, eqb-false, eq-eqb, ne-eqb, leb-true, leb-false, le-leb, ltb-true, ltb-false}
+use borrow.Author.Tests.{eqb-true, eqb-false, eq-eqb, ne-eqb, leb-true, leb-false, ltb-true, ltb-false}
 use Rattle.counting.specs.Count.{find}
 use Rattle.counting.specs.Most.{places, support, most}
-use Rattle.counting.proofs.Bools.{never, both, and-left, and-right, not-true, not-of-false, cond-true, cond-false}
+use Rattle.counting.proofs.Bools.{never, and-left, and-right, not-true, cond-true, cond-false}
 use Rattle.counting.proofs.Build.{length-build, getD-build, built}
 use Rattle.counting.proofs.Count.{find-cases}
 use Rattle.counting.proofs.Most.{Stands, IsMost, support-places, supported, most-is, most-unique, most-stands, most-zero}
 use Rattle.counting.proofs.Places.{places-one, most-majority}
-use Rattle.tally.specs.Tally.{carried, voteOf, supportOf, confidenceOf, gradedRow, counted, chosenRow}
+use Rattle.tally.specs.Tally.{carried, voteOf, supportOf, confidenceAt, confidenceOf, gradedRow, counted, chosenRow}
+use Rattle.tally.proofs.Carried.{carried-enough}
 
 -- v is a non-zero row that stands at least n − t times
 pub record Carried (t : ℕ) (xs : List ℕ) (v : ℕ) : Type 0 where
@@ -39,8 +40,7 @@ module _ (t : ℕ) (xs : List ℕ) where
       }
 
   pub is-carried : (v : ℕ) → Carried t xs v → carried t xs v ≡ true
-  unfolding carried
-  is-carried v c = both (not-of-false (ne-eqb v 0 (c .not-zero))) (le-leb (length xs - t) (places xs v) (c .enough))
+  is-carried v c = carried-enough t xs v (c .not-zero) (c .enough)
 
   -- no two rows are carried
   pub carried-one : 3 * t < length xs → (v w : ℕ) → Carried t xs v → Carried t xs w → v ≡ w
@@ -107,7 +107,7 @@ at-most-2 (low a e) = omega arith
 
 module _ (t : ℕ) (xs : List ℕ) where
   grading : Grading t (supportOf xs) (confidenceOf t xs)
-  unfolding confidenceOf
+  unfolding confidenceOf confidenceAt
   grading = go (leb (2 * t + 1) (supportOf xs)) (ltb t (supportOf xs)) refl refl
     where
       go : (a b : Bool) → leb (2 * t + 1) (supportOf xs) ≡ a → ltb t (supportOf xs) ≡ b →

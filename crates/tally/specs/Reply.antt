@@ -5,22 +5,27 @@ use mathlib.Core.Bool.{Bool, cond, not}
 use mathlib.Core.List.{List, [], _∷_}
 use lib.Dec.{eqb}
 use lib.ListN.{length}
+use Rattle.counting.specs.Most.{support}
 use Rattle.counting.specs.Refuse.{Refusal, firstOf}
 use Rattle.counting.specs.Refuse.Refusal.{refuse}
 use Rattle.sizes.specs.Sizes.{outside, tooMany}
-use Rattle.tally.specs.declared.Vote.{Vote}
-use Rattle.tally.specs.declared.Grade.{Grade}
-use Rattle.tally.specs.declared.Choice.{Choice}
+use Rattle.tally.specs.declared.Voted.{Voted}
+use Rattle.tally.specs.declared.Graded.{Graded}
+use Rattle.tally.specs.declared.Chosen.{Chosen}
+use Rattle.tally.specs.declared.Lead.{Lead}
 use Rattle.tally.specs.Tally.{twoRows, voteOf, gradedRow, confidenceOf, chosenRow, firmLeaders, above2}
 
+-- the refusals of a grade of n rows: 4, 5
+unfoldable pub gradeRefusal : ℕ → ℕ → ℕ
+gradeRefusal n t = firstOf (refuse 4 (outside n) ∷ refuse 5 (tooMany n t) ∷ [])
+
+-- the refusals of a vote: 4, 5, 7
 unfoldable pub voteRefusal : ℕ → List ℕ → ℕ
 voteRefusal t xs =
     firstOf
     (refuse 4 (outside (length xs)) ∷ refuse 5 (tooMany (length xs) t) ∷ refuse 7 (twoRows t xs) ∷ [])
 
-unfoldable pub gradeRefusal : ℕ → List ℕ → ℕ
-gradeRefusal t xs = firstOf (refuse 4 (outside (length xs)) ∷ refuse 5 (tooMany (length xs) t) ∷ [])
-
+-- the refusals of a choice: 4, 11, 13
 unfoldable pub choiceRefusal : List ℕ → List ℕ → ℕ
 choiceRefusal rows confidences =
     firstOf
@@ -29,22 +34,26 @@ choiceRefusal rows confidences =
     refuse 13 (above2 confidences) ∷
     [])
 
+-- a row with its support in xs
+unfoldable pub leadOf : List ℕ → ℕ → Lead
+leadOf xs row = record { row = row; support = support xs row }
+
 -- the answer, or 0 where the call is refused
 unfoldable pub unless : ℕ → ℕ → ℕ
 unless refusal answer = cond (eqb refusal 0) answer 0
 
-unfoldable pub voteReply : List ℕ → ℕ → Vote
+unfoldable pub voteReply : List ℕ → ℕ → Voted
 voteReply xs t = record { refusal = voteRefusal t xs; row = unless (voteRefusal t xs) (voteOf t xs) }
 
-unfoldable pub gradeReply : List ℕ → ℕ → Grade
+unfoldable pub gradeReply : List ℕ → ℕ → Graded
 gradeReply xs t =
     record {
-      refusal = gradeRefusal t xs;
-      row = unless (gradeRefusal t xs) (gradedRow t xs);
-      confidence = unless (gradeRefusal t xs) (confidenceOf t xs);
+      refusal = gradeRefusal (length xs) t;
+      row = unless (gradeRefusal (length xs) t) (gradedRow t xs);
+      confidence = unless (gradeRefusal (length xs) t) (confidenceOf t xs);
     }
 
-unfoldable pub choiceReply : List ℕ → List ℕ → Choice
+unfoldable pub choiceReply : List ℕ → List ℕ → Chosen
 choiceReply rows confidences =
     record {
       refusal = choiceRefusal rows confidences;

@@ -22,13 +22,21 @@ twoRows t xs =
     any (length xs) (λ j.
     carried t xs (getD xs i 0) && carried t xs (getD xs j 0) && not (eqb (getD xs i 0) (getD xs j 0))))
 
+-- does a row other than the given one stand n − t times or more?
+unfoldable pub rival : ℕ → List ℕ → ℕ → Bool
+rival t xs row = any (length xs) (λ k. carried t xs (getD xs k 0) && not (eqb (getD xs k 0) row))
+
 -- step 4: the number of places of the row found most often
 unfoldable pub supportOf : List ℕ → ℕ
 supportOf xs = support xs (most xs)
 
 -- step 4: support of 2t + 1 or more gives confidence 2; more than t and less than 2t + 1 gives 1; otherwise 0
+unfoldable pub confidenceAt : ℕ → ℕ → ℕ
+confidenceAt t support = cond (leb (2 * t + 1) support) 2 (cond (ltb t support) 1 0)
+
+-- step 4: the confidence in the row found most often
 unfoldable pub confidenceOf : ℕ → List ℕ → ℕ
-confidenceOf t xs = cond (leb (2 * t + 1) (supportOf xs)) 2 (cond (ltb t (supportOf xs)) 1 0)
+confidenceOf t xs = confidenceAt t (supportOf xs)
 
 -- step 4: confidence 1 and 2 come with the row found most often, confidence 0 with row 0
 unfoldable pub gradedRow : ℕ → List ℕ → ℕ
@@ -42,11 +50,14 @@ counted rows confidences = build (length rows) (λ k. cond (eqb (getD confidence
 unfoldable pub chosenRow : List ℕ → List ℕ → ℕ
 chosenRow rows confidences = most (counted rows confidences)
 
+-- the number of leaders with confidence 2 that hold the given row
+unfoldable pub firmFor : List ℕ → List ℕ → ℕ → ℕ
+firmFor rows confidences row = count (length rows) (λ k. eqb (getD confidences k 0) 2 && eqb (getD rows k 0) row)
+
 -- the number of leaders with confidence 2 that hold the chosen row; 0 if none was chosen
 unfoldable pub firmLeaders : List ℕ → List ℕ → ℕ
 firmLeaders rows confidences =
-    cond (eqb (chosenRow rows confidences) 0) 0
-    (count (length rows) (λ k. eqb (getD confidences k 0) 2 && eqb (getD rows k 0) (chosenRow rows confidences)))
+    cond (eqb (chosenRow rows confidences) 0) 0 (firmFor rows confidences (chosenRow rows confidences))
 
 -- refusal 13: a confidence above 2
 unfoldable pub above2 : List ℕ → Bool

@@ -1,0 +1,44 @@
+-- The run file as document 01 lays it out: where each number stands in the bytes. All numbers are most significant byte first.
+use Prim.Native.Nat.{ℕ, zero, suc, _+_, _*_}
+use mathlib.Core.Bool.{Bool, cond, _&&_}
+use mathlib.Core.List.{List}
+use lib.Dec.{eqb}
+use lib.ListN.{getD}
+use Rattle.sizes.specs.Sizes.{largestT}
+
+-- the number in so many bytes from a place on
+unfoldable pub number : List ℕ → ℕ → ℕ → ℕ
+number bytes at zero = 0
+number bytes at (suc size) = number bytes at size * 256 + getD bytes (at + size) 0
+
+-- the mark: H, N, B
+unfoldable pub marked : List ℕ → Bool
+marked bytes = eqb (getD bytes 0 0) 72 && eqb (getD bytes 1 0) 78 && eqb (getD bytes 2 0) 66
+
+-- version in 16 bits, n in 8, t in 8, faulty set in 16
+unfoldable pub versionOf : List ℕ → ℕ
+versionOf bytes = number bytes 3 2
+
+unfoldable pub nOf : List ℕ → ℕ
+nOf bytes = number bytes 5 1
+
+unfoldable pub tByte : List ℕ → ℕ
+tByte bytes = number bytes 6 1
+
+unfoldable pub faultyOf : List ℕ → ℕ
+faultyOf bytes = number bytes 7 2
+
+-- t written as 255 means the largest t
+unfoldable pub tOf : ℕ → ℕ → ℕ
+tOf n byte = cond (eqb byte 255) (largestT n) byte
+
+-- the length of a heading: 9 bytes and n rows of 64 bits
+unfoldable pub headingBytes : ℕ → ℕ
+headingBytes n = 9 + 8 * n
+
+-- row k of the heading, and row k of a table
+unfoldable pub headingRow : List ℕ → ℕ → ℕ
+headingRow bytes k = number bytes (9 + 8 * k) 8
+
+unfoldable pub tableRow : List ℕ → ℕ → ℕ
+tableRow bytes k = number bytes (8 * k) 8

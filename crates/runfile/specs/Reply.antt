@@ -1,0 +1,67 @@
+-- The whole replies of the readers, and the last contents of the lent slice. A refused read writes nothing and gives 0 for all
+-- but the refusal's number.
+use Prim.Native.Nat.{ℕ, _*_}
+use mathlib.Core.Bool.{Bool, cond, not, _&&_}
+use mathlib.Core.List.{List, [], _∷_, _++_}
+use lib.Dec.{eqb, ltb}
+use lib.ListN.{length, drop}
+use Rattle.counting.specs.Count.{build}
+use Rattle.counting.specs.Refuse.{Refusal, firstOf}
+use Rattle.counting.specs.Refuse.Refusal.{refuse}
+use Rattle.sizes.specs.Sizes.{outside, tooMany, stray, soundZero, tableRows}
+use Rattle.runfile.specs.declared.Heading.{Heading}
+use Rattle.runfile.specs.File.{marked, versionOf, nOf, tByte, faultyOf, tOf, headingBytes, headingRow, tableRow}
+
+-- the heading reader's refusals: 1, 2, 3, 4, 5 (255 passes), 6, 8, 9, 10; `room` is the length of the lent slice
+unfoldable pub headingRefusal : List ℕ → ℕ → ℕ
+headingRefusal bytes room =
+    firstOf
+    (refuse 1 (ltb (length bytes) 9) ∷
+    refuse 2 (not (marked bytes)) ∷
+    refuse 3 (not (eqb (versionOf bytes) 1)) ∷
+    refuse 4 (outside (nOf bytes)) ∷
+    refuse 5 (not (eqb (tByte bytes) 255) && tooMany (nOf bytes) (tByte bytes)) ∷
+    refuse 6 (stray (nOf bytes) (faultyOf bytes)) ∷
+    refuse 8 (ltb (length bytes) (headingBytes (nOf bytes))) ∷
+    refuse 9 (soundZero (nOf bytes) (faultyOf bytes) (build (nOf bytes) (headingRow bytes))) ∷
+    refuse 10 (ltb room (nOf bytes)) ∷
+    [])
+
+-- the table reader's refusals: 4, 8, 10
+unfoldable pub tableRefusal : ℕ → List ℕ → ℕ → ℕ
+tableRefusal n bytes room =
+    firstOf
+    (refuse 4 (outside n) ∷
+    refuse 8 (not (eqb (length bytes) (8 * tableRows n))) ∷
+    refuse 10 (ltb room (tableRows n)) ∷
+    [])
+
+unfoldable pub nothingRead : ℕ → Heading
+nothingRead refusal = record { refusal = refusal; version = 0; n = 0; t = 0; faulty = 0 }
+
+-- version, n, t (the number that 255 stands for) and the faulty set
+unfoldable pub headingReply : List ℕ → ℕ → Heading
+headingReply bytes room =
+    cond (eqb (headingRefusal bytes room) 0)
+    (record {
+      refusal = 0;
+      version = versionOf bytes;
+      n = nOf bytes;
+      t = tOf (nOf bytes) (tByte bytes);
+      faulty = faultyOf bytes;
+    })
+    (nothingRead (headingRefusal bytes room))
+
+-- n numbers written at the front of a slice, the rest of which stays
+unfoldable pub front : ℕ → (ℕ → ℕ) → List ℕ → List ℕ
+front n f slice = build n f ++ drop n slice
+
+-- the slice after the heading reader: the n rows at the front, faulty boxes' rows as they stand
+unfoldable pub headingWrites : List ℕ → List ℕ → List ℕ
+headingWrites bytes slice =
+    cond (eqb (headingRefusal bytes (length slice)) 0) (front (nOf bytes) (headingRow bytes) slice) slice
+
+-- the slice after the table reader
+unfoldable pub tableWrites : ℕ → List ℕ → List ℕ → List ℕ
+tableWrites n bytes slice =
+    cond (eqb (tableRefusal n bytes (length slice)) 0) (front (tableRows n) (tableRow bytes) slice) slice

@@ -1,0 +1,44 @@
+-- `tally::ahead` meets its contract: nothing stands before itself; otherwise the two supports decide, and on a tie the lower row.
+-- Assumes nothing.
+use mathlib.Core.Path.{_≡_, refl, sym, ap, _∙_}
+use Prim.Native.Nat.{ℕ}
+use native.Mathlib.Omega.{arith}
+use borrow.Author.Tests.{lt-ltb, le-ltb}
+use Rattle.counting.specs.Most.{before}
+use Rattle.counting.proofs.Most.{before-self, before-more, before-fewer, before-tie}
+use Rattle.tally.proofs.Leads.{lead-support, keeps-lead, takes-lead}
+use borrow.Author.Needs.{needs}
+use Rattle.tally.proofs.ahead.Statement.{statement}
+use Rattle.tally.proofs.ahead.Tie as tie
+
+returns : tie.Need-returns
+returns c =
+    keeps-lead (c .before .before .before .args .rows .now) (c .before .before .before .args .lead) (c .before .before .before .args .v) (c .before .before .before .pre)
+    (ap (before (c .before .before .before .args .rows .now) (c .before .before .before .args .lead .row)) (c .if1 .taken) ∙ before-self (c .before .before .before .args .rows .now) (c .before .before .before .args .lead .row))
+
+support-of-requires : tie.Need-support-of-requires
+support-of-requires c κs = search needs
+
+returns-2 : tie.Need-returns-2
+returns-2 c =
+    takes-lead (c .before .before .before .before .before .before .args .rows .now) (c .before .before .before .before .before .before .args .lead) (c .before .before .before .before .before .before .args .v) (c .before .before .support-of .result) (c .before .before .support-of .ensures)
+    (before-more (c .before .before .before .before .before .before .args .rows .now) (c .before .before .before .before .before .before .args .lead .row) (c .before .before .before .before .before .before .args .v) (omega (arith, lead-support (c .before .before .before .before .before .before .args .rows .now) (c .before .before .before .before .before .before .args .lead) (c .before .before .before .before .before .before .args .v) (c .before .before .before .before .before .before .pre), c .before .before .support-of .ensures)))
+
+returns-3 : tie.Need-returns-3
+returns-3 c =
+    keeps-lead (c .before .before .before .before .before .before .before .before .args .rows .now) (c .before .before .before .before .before .before .before .before .args .lead) (c .before .before .before .before .before .before .before .before .args .v) (c .before .before .before .before .before .before .before .before .pre)
+    (before-fewer (c .before .before .before .before .before .before .before .before .args .rows .now) (c .before .before .before .before .before .before .before .before .args .lead .row) (c .before .before .before .before .before .before .before .before .args .v) (omega (arith, lead-support (c .before .before .before .before .before .before .before .before .args .rows .now) (c .before .before .before .before .before .before .before .before .args .lead) (c .before .before .before .before .before .before .before .before .args .v) (c .before .before .before .before .before .before .before .before .pre), c .before .before .before .before .support-of .ensures)))
+
+returns-4 : tie.Need-returns-4
+returns-4 c =
+    let tie = before-tie (c .before .before .before .before .before .before .before .before .before .before .args .rows .now) (c .before .before .before .before .before .before .before .before .before .before .args .lead .row) (c .before .before .before .before .before .before .before .before .before .before .args .v) (omega (arith, lead-support (c .before .before .before .before .before .before .before .before .before .before .args .rows .now) (c .before .before .before .before .before .before .before .before .before .before .args .lead) (c .before .before .before .before .before .before .before .before .before .before .args .v) (c .before .before .before .before .before .before .before .before .before .before .pre), c .before .before .before .before .before .before .support-of .ensures)) in
+    takes-lead (c .before .before .before .before .before .before .before .before .before .before .args .rows .now) (c .before .before .before .before .before .before .before .before .before .before .args .lead) (c .before .before .before .before .before .before .before .before .before .before .args .v) (c .before .before .before .before .before .before .support-of .result) (c .before .before .before .before .before .before .support-of .ensures) (tie ∙ lt-ltb _ _ (c .if4 .taken))
+
+returns-5 : tie.Need-returns-5
+returns-5 c =
+    let tie = before-tie (c .before .before .before .before .before .before .before .before .before .before .args .rows .now) (c .before .before .before .before .before .before .before .before .before .before .args .lead .row) (c .before .before .before .before .before .before .before .before .before .before .args .v) (omega (arith, lead-support (c .before .before .before .before .before .before .before .before .before .before .args .rows .now) (c .before .before .before .before .before .before .before .before .before .before .args .lead) (c .before .before .before .before .before .before .before .before .before .before .args .v) (c .before .before .before .before .before .before .before .before .before .before .pre), c .before .before .before .before .before .before .support-of .ensures)) in
+    keeps-lead (c .before .before .before .before .before .before .before .before .before .before .args .rows .now) (c .before .before .before .before .before .before .before .before .before .before .args .lead) (c .before .before .before .before .before .before .before .before .before .before .args .v) (c .before .before .before .before .before .before .before .before .before .before .pre) (tie ∙ le-ltb _ _ (c .if4 .left))
+
+pub ahead-spec : {M : Type 1} → statement M
+ahead-spec =
+    tie.close (tie.spec returns support-of-requires returns-2 returns-3 returns-4 returns-5)

@@ -1,0 +1,28 @@
+-- `tally::confidence_at` meets its contract: it makes the tests of step 4 in their order. Assumes nothing.
+use mathlib.Core.Path.{refl}
+use borrow.Author.Tests.{le-leb, lt-leb, lt-ltb, le-ltb}
+use Rattle.tally.specs.Tally.{confidenceAt}
+use borrow.Author.Needs.{needs}
+use Rattle.tally.proofs.confidence_at.Statement.{statement}
+use Rattle.tally.proofs.confidence_at.Tie as tie
+
+mul-if1 : tie.Need-mul-if1
+mul-if1 c = search needs
+
+add-if1 : tie.Need-add-if1
+add-if1 c = search needs
+
+returns : tie.Need-returns
+unfolding confidenceAt
+returns c = rw (le-leb _ _ (c .if1 .taken)) refl
+
+returns-2 : tie.Need-returns-2
+unfolding confidenceAt
+returns-2 c = rw (lt-leb _ _ (c .before .if1 .left), lt-ltb _ _ (c .if2 .taken)) refl
+
+returns-3 : tie.Need-returns-3
+unfolding confidenceAt
+returns-3 c = rw (lt-leb _ _ (c .before .if1 .left), le-ltb _ _ (c .if2 .left)) refl
+
+pub confidence-at-spec : {M : Type 1} → statement M
+confidence-at-spec = tie.close (tie.spec mul-if1 add-if1 returns returns-2 returns-3)

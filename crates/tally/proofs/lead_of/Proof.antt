@@ -1,0 +1,59 @@
+-- `tally::lead_of` meets its contract: after i turns the lead is the best of the first i rows, with its support. What is left of the
+-- length falls. Assumes nothing.
+use mathlib.Core.Path.{_≡_, refl}
+use Prim.Native.Nat.{ℕ, _≤_, _-_}
+use native.Mathlib.Omega.{arith}
+use lib.ListN.{length}
+use Rattle.counting.specs.Most.{best, most, support}
+use Rattle.tally.specs.Reply.{leadOf}
+use Rattle.tally.proofs.Leads.{lead-turn, own-lead}
+use borrow.Author.Needs.{needs}
+use Rattle.tally.proofs.lead_of.Statement.{statement}
+use Rattle.tally.proofs.lead_of.Tie as tie
+
+abbrev Inv-loop : tie.InvT-loop
+Inv-loop rows lead₀ i₀ lead i = (i ≤ length rows) × (lead ≡ leadOf rows (best rows i))
+
+abbrev μ-loop : tie.MeasureT-loop
+μ-loop rows lead₀ i₀ lead i = length rows - i
+
+loop-holds : tie.Need-loop-holds Inv-loop μ-loop
+unfolding leadOf best support
+loop-holds c = (search needs, refl)
+
+mul-ahead : tie.Need-mul-ahead Inv-loop μ-loop
+mul-ahead c = search needs
+
+shared-slice-read-ahead : tie.Need-shared-slice-read-ahead Inv-loop μ-loop
+shared-slice-read-ahead c = search needs
+
+ahead-requires : tie.Need-ahead-requires Inv-loop μ-loop
+ahead-requires c κs = own-lead _ _ _ (c .before .before .loop .inv .1)
+
+add-i : tie.Need-add-i Inv-loop μ-loop
+add-i c = search needs
+
+loop-less : tie.Need-loop-less Inv-loop μ-loop
+loop-less c = search needs
+
+loop-again : tie.Need-loop-again Inv-loop μ-loop
+loop-again c = (search needs, lead-turn _ _ _ _ (c .before .before .before .loop .inv .1) (c .ahead .ensures))
+
+returns : tie.Need-returns Inv-loop μ-loop
+unfolding most
+returns c = let whole : c .before .loop .i ≡ length (c .before .before .before .args .rows .now) = omega arith in rw (← whole) (c .before .loop .inv .1)
+
+pub lead-of-spec : {M : Type 1} → statement M
+lead-of-spec =
+    tie.close
+    (tie.spec
+    Inv-loop
+    μ-loop
+    loop-holds
+    mul-ahead
+    shared-slice-read-ahead
+    ahead-requires
+    add-i
+    loop-less
+    loop-again
+    returns)

@@ -1,0 +1,65 @@
+-- `tally::places_of` meets its contract: after i turns it has counted the places below i that hold v. What is left of the length
+-- falls. Assumes nothing.
+use mathlib.Core.Path.{_≡_, refl, sym, ap, _∙_}
+use Prim.Native.Nat.{ℕ, _≤_, _-_}
+use native.Mathlib.Numerals.{add-one}
+use native.Mathlib.Omega.{arith}
+use borrow.Author.Needs.{needs}
+use lib.Dec.{eqb}
+use lib.ListN.{length, getD}
+use Rattle.counting.specs.Count.{count}
+use Rattle.counting.specs.Most.{places}
+use Rattle.counting.proofs.Count.{count-turn, count-turn-le}
+use Rattle.tally.proofs.places_of.Statement.{statement}
+use Rattle.tally.proofs.places_of.Tie as tie
+
+abbrev Inv-loop : tie.InvT-loop
+Inv-loop rows v found₀ i₀ found i = (i ≤ length rows) × (found ≡ count i (λ k. eqb (getD rows k 0) v))
+
+abbrev μ-loop : tie.MeasureT-loop
+μ-loop rows v found₀ i₀ found i = length rows - i
+
+loop-holds : tie.Need-loop-holds Inv-loop μ-loop
+unfolding count
+loop-holds c = search needs
+
+mul-one-if-same : tie.Need-mul-one-if-same Inv-loop μ-loop
+mul-one-if-same c = search needs
+
+shared-slice-read-one-if-same : tie.Need-shared-slice-read-one-if-same Inv-loop μ-loop
+shared-slice-read-one-if-same c = search needs
+
+one-if-same-requires : tie.Need-one-if-same-requires Inv-loop μ-loop
+one-if-same-requires c κs = search needs
+
+add-found : tie.Need-add-found Inv-loop μ-loop
+add-found c = omega (arith, count-turn-le _ _ (c .before .before .before .loop .inv .1) (c .one-if-same .ensures))
+
+add-i : tie.Need-add-i Inv-loop μ-loop
+add-i c = search needs
+
+loop-less : tie.Need-loop-less Inv-loop μ-loop
+loop-less c = search needs
+
+loop-again : tie.Need-loop-again Inv-loop μ-loop
+loop-again c = (search needs, count-turn _ _ (c .before .before .before .loop .inv .1) (c .one-if-same .ensures))
+
+returns : tie.Need-returns Inv-loop μ-loop
+unfolding places
+returns c = let whole : c .before .loop .i ≡ length (c .before .before .before .args .rows .now) = omega arith in rw (← whole) (c .before .loop .inv .1)
+
+pub places-of-spec : {M : Type 1} → statement M
+places-of-spec =
+    tie.close
+    (tie.spec
+    Inv-loop
+    μ-loop
+    loop-holds
+    mul-one-if-same
+    shared-slice-read-one-if-same
+    one-if-same-requires
+    add-found
+    add-i
+    loop-less
+    loop-again
+    returns)

@@ -1,0 +1,303 @@
+/* The rules of one iteration: vote, grade, choice, and the three steps of sending that lie between them. */
+#include "notebook.h"
+
+#include <string.h>
+
+/* What every box sends to every box in step 2 or 3: [sender][leader] for the sound senders. */
+typedef uint64_t sendings[MOST_BOXES][MOST_BOXES];
+
+/* What one box hears in step 2 or 3: [leader][sender], so that a vote runs along one row of memory. */
+typedef uint64_t hearings[MOST_BOXES][MOST_BOXES];
+
+size_t table_rows(unsigned n)
+{
+    return (size_t)n * n + 2 * (size_t)n * n * n;
+}
+
+unsigned largest_t(unsigned n)
+{
+    return (n - 1) / 3;
+}
+
+static int in_set(unsigned set, unsigned box)
+{
+    return (set >> box) & 1;
+}
+
+static unsigned places_of(const uint64_t *rows, unsigned n, uint64_t row)
+{
+    unsigned places = 0;
+    for (unsigned j = 0; j < n; j++)
+        places += rows[j] == row;
+    return places;
+}
+
+/* Step 3. More than half of the places are needed, so the first row that has them is the only one. */
+static uint64_t vote_over(const uint64_t *rows, unsigned n, unsigned t)
+{
+    uint64_t last_counted = 0;
+    for (unsigned j = 0; j < n; j++) {
+        if (rows[j] == 0 || rows[j] == last_counted)
+            continue;
+        last_counted = rows[j];
+        if (places_of(rows, n, rows[j]) >= n - t)
+            return rows[j];
+    }
+    return 0;
+}
+
+/* Step 4. */
+static struct grade grade_over(const uint64_t *rows, unsigned n, unsigned t)
+{
+    uint64_t best = 0;
+    unsigned support = 0;
+    for (unsigned j = 0; j < n; j++) {
+        if (rows[j] == 0 || rows[j] == best)
+            continue;
+        unsigned places = places_of(rows, n, rows[j]);
+        if (places > support || (places == support && rows[j] < best)) {
+            best = rows[j];
+            support = places;
+        }
+    }
+    struct grade answer = {0, 0};
+    if (support > t) {
+        answer.row = best;
+        answer.confidence = support >= 2 * t + 1 ? 2 : 1;
+    }
+    return answer;
+}
+
+/* How many leaders hold the row with at least this confidence. */
+static unsigned holders(const uint64_t *rows, const uint8_t *confidences, unsigned n, uint64_t row, unsigned least)
+{
+    unsigned count = 0;
+    for (unsigned k = 0; k < n; k++)
+        count += rows[k] == row && confidences[k] >= least;
+    return count;
+}
+
+/* Step 5. */
+static struct choice choice_over(const uint64_t *rows, const uint8_t *confidences, unsigned n)
+{
+    struct choice answer = {0, 0};
+    unsigned most = 0;
+    for (unsigned k = 0; k < n; k++) {
+        if (rows[k] == 0 || confidences[k] == 0 || rows[k] == answer.row)
+            continue;
+        unsigned leaders = holders(rows, confidences, n, rows[k], 1);
+        if (leaders > most || (leaders == most && rows[k] < answer.row)) {
+            answer.row = rows[k];
+            most = leaders;
+        }
+    }
+    if (answer.row != 0)
+        answer.sure = (uint8_t)holders(rows, confidences, n, answer.row, 2);
+    return answer;
+}
+
+static enum refusal check_n_t(size_t n, unsigned t)
+{
+    if (n < 1 || n > MOST_BOXES)
+        return WRONG_N;
+    if (3 * t >= n)
+        return WRONG_T;
+    return FINE;
+}
+
+/* Refusal 7 has no test here: with 3t less than n, two rows cannot both stand n - t times among n. */
+enum refusal vote(const uint64_t *rows, size_t count, unsigned t, uint64_t *row)
+{
+    *row = 0;
+    enum refusal refusal = check_n_t(count, t);
+    if (refusal == FINE)
+        *row = vote_over(rows, (unsigned)count, t);
+    return refusal;
+}
+
+enum refusal grade(const uint64_t *rows, size_t count, unsigned t, struct grade *answer)
+{
+    memset(answer, 0, sizeof *answer);
+    enum refusal refusal = check_n_t(count, t);
+    if (refusal == FINE)
+        *answer = grade_over(rows, (unsigned)count, t);
+    return refusal;
+}
+
+enum refusal choice(const uint64_t *rows, size_t count, const uint8_t *confidences, size_t confidence_count,
+                    struct choice *answer)
+{
+    memset(answer, 0, sizeof *answer);
+    if (count < 1 || count > MOST_BOXES)
+        return WRONG_N;
+    if (count != confidence_count)
+        return WRONG_LENGTH;
+    for (size_t k = 0; k < count; k++)
+        if (confidences[k] > 2)
+            return WRONG_CONFIDENCE;
+    *answer = choice_over(rows, confidences, (unsigned)count);
+    return FINE;
+}
+
+static int sound_row_is_zero(const uint64_t *rows, unsigned n, unsigned faulty)
+{
+    for (unsigned i = 0; i < n; i++)
+        if (!in_set(faulty, i) && rows[i] == 0)
+            return 1;
+    return 0;
+}
+
+static enum refusal check_n_t_faulty(unsigned n, unsigned t, unsigned faulty)
+{
+    enum refusal refusal = check_n_t(n, t);
+    if (refusal == FINE && faulty >> n != 0)
+        return STRAY_FAULTY_BIT;
+    return refusal;
+}
+
+enum refusal start(uint8_t n, uint8_t t, uint16_t faulty, const uint64_t *rows, size_t count, struct state *state)
+{
+    memset(state, 0, sizeof *state);
+    enum refusal refusal = check_n_t_faulty(n, t, faulty);
+    if (refusal != FINE)
+        return refusal;
+    if (count != n)
+        return WRONG_LENGTH;
+    if (sound_row_is_zero(rows, n, faulty))
+        return ZERO_ROW;
+    state->n = n;
+    state->t = t;
+    state->faulty = faulty;
+    for (unsigned i = 0; i < n; i++)
+        if (!in_set(faulty, i))
+            state->row[i] = rows[i];
+    return FINE;
+}
+
+static int state_is_wrong(const struct state *state)
+{
+    for (unsigned i = 0; i < MOST_BOXES; i++) {
+        int sound = i < state->n && !in_set(state->faulty, i);
+        if (!sound && (state->row[i] != 0 || state->list[i] != 0))
+            return 1;
+        if (state->list[i] >> state->n != 0)
+            return 1;
+    }
+    return state->sent > state->done * (uint64_t)table_rows(state->n);
+}
+
+static enum refusal check_iteration(const struct state *state, size_t count)
+{
+    enum refusal refusal = check_n_t_faulty(state->n, state->t, state->faulty);
+    if (refusal != FINE)
+        return refusal;
+    if (sound_row_is_zero(state->row, state->n, state->faulty))
+        return ZERO_ROW;
+    if (count != table_rows(state->n))
+        return WRONG_LENGTH;
+    if (state->done > state->t)
+        return ALL_DONE;
+    if (state_is_wrong(state))
+        return WRONG_STATE;
+    return FINE;
+}
+
+/* Each non-zero row that a sound box sends goes to all n boxes, itself among them. */
+static uint64_t messages_of(const uint64_t *rows, unsigned n)
+{
+    return (uint64_t)n * (n - places_of(rows, n, 0));
+}
+
+/* What box i hears in step 1: heard[k] from box k. */
+static void hear_rows(const struct state *state, const uint64_t *table, unsigned i, uint64_t *heard)
+{
+    unsigned n = state->n;
+    for (unsigned k = 0; k < n; k++) {
+        if (in_set(state->list[i], k))
+            heard[k] = 0;
+        else if (in_set(state->faulty, k))
+            heard[k] = table[k * n + i];
+        else
+            heard[k] = state->row[k];
+    }
+}
+
+/* What box i hears in step 2 or 3. The table given is that step's part alone. */
+static void hear_all(const struct state *state, sendings sent, const uint64_t *table, unsigned i, hearings heard)
+{
+    unsigned n = state->n;
+    for (unsigned j = 0; j < n; j++) {
+        const uint64_t *from = in_set(state->faulty, j) ? table + (j * n + i) * n : sent[j];
+        int listed = in_set(state->list[i], j);
+        for (unsigned k = 0; k < n; k++)
+            heard[k][j] = listed ? 0 : from[k];
+    }
+}
+
+/* Step 5 for box i: its new row, and the leaders that join its list. */
+static void finish_box(struct state *next, unsigned i, hearings heard)
+{
+    uint64_t rows[MOST_BOXES];
+    uint8_t confidences[MOST_BOXES];
+    unsigned n = next->n;
+    for (unsigned k = 0; k < n; k++) {
+        struct grade answer = grade_over(heard[k], n, next->t);
+        rows[k] = answer.row;
+        confidences[k] = answer.confidence;
+        if (answer.confidence < 2)
+            next->list[i] |= (uint16_t)(1u << k);
+    }
+    struct choice chosen = choice_over(rows, confidences, n);
+    if (chosen.row != 0)
+        next->row[i] = chosen.row;
+}
+
+/* Steps 1 and 2: fills `first` with what each sound box heard in step 1, and counts what steps 1 and 2 send. */
+static void step_one(struct state *state, const uint64_t *table, sendings first)
+{
+    unsigned n = state->n;
+    uint64_t sent = 0;
+    for (unsigned i = 0; i < n; i++) {
+        if (in_set(state->faulty, i))
+            continue;
+        hear_rows(state, table, i, first[i]);
+        sent += n + messages_of(first[i], n);
+    }
+    state->sent += sent;
+}
+
+/* Step 3: fills `second` with the votes of each sound box, and counts them as they are sent. */
+static void step_three(struct state *state, const uint64_t *table, sendings first, sendings second)
+{
+    hearings heard;
+    unsigned n = state->n;
+    for (unsigned i = 0; i < n; i++) {
+        if (in_set(state->faulty, i))
+            continue;
+        hear_all(state, first, table, i, heard);
+        for (unsigned k = 0; k < n; k++)
+            second[i][k] = vote_over(heard[k], n, state->t);
+        state->sent += messages_of(second[i], n);
+    }
+}
+
+/* A box's list and row change only in step 5, after all that the box itself heard, and nobody else reads its list. */
+enum refusal iterate(struct state *state, const uint64_t *table, size_t count)
+{
+    enum refusal refusal = check_iteration(state, count);
+    if (refusal != FINE)
+        return refusal;
+    sendings first, second;
+    hearings heard;
+    size_t n = state->n;
+    step_one(state, table, first);
+    step_three(state, table + n * n, first, second);
+    for (unsigned i = 0; i < n; i++) {
+        if (in_set(state->faulty, i))
+            continue;
+        hear_all(state, second, table + n * n + n * n * n, i, heard);
+        finish_box(state, i, heard);
+    }
+    state->done++;
+    return FINE;
+}
