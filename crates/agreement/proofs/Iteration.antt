@@ -19,7 +19,7 @@ use Rattle.counting.specs.Most.{most}
 use Rattle.counting.specs.Sets.{member}
 use Rattle.counting.proofs.Bools.{either, never, both, and-left, and-right, not-true, not-of-false, or-none, or-true-right, cond-false}
 use Rattle.counting.proofs.Build.{length-build, getD-build, build-ext}
-use Rattle.counting.proofs.Count.{Some, any-some, any-none, some-any, count-strict}
+use Rattle.counting.proofs.Count.{Some, any-some, any-none, count-strict}
 use Rattle.counting.proofs.Most.{most-zero}
 use Rattle.counting.proofs.Places.{most-majority}
 use Rattle.sizes.specs.Sizes.{sound}
@@ -27,6 +27,7 @@ use Rattle.sizes.proofs.Laws.{inside-high}
 use Rattle.gradecast.specs.Steps.{confidence, gradeRow}
 use Rattle.gradecast.specs.Fair.{SoundBox, Fair, Gradecast}
 use Rattle.gradecast.proofs.Grades.{row-none, positive}
+use Rattle.gradecast.proofs.Boxes.{SoundWith, any-sound, sound-any}
 use Rattle.gradecast.proofs.Near.{all-places, near}
 use Rattle.gradecast.proofs.Properties.{gradecast}
 use Rattle.run.specs.declared.Run.{Run}
@@ -45,23 +46,8 @@ pub record Split (n faulty : ℕ) (sure : ℕ → ℕ → ℕ) : Type 0 where
   pub leader : k < n
   pub counting : SoundBox n faulty i
   pub leaving : SoundBox n faulty j
-  pub counts : 1 ≤ sure i k
-  pub leaves : sure j k ≡ 0
-
--- a sound box that passes a test
-record SoundWith (n faulty : ℕ) (p : ℕ → Bool) : Type 0 where
-  at : ℕ
-  box-sound : SoundBox n faulty at
-  passes : p at ≡ true
-
-any-sound : (n faulty : ℕ) (p : ℕ → Bool) → any n (λ i. sound faulty i && p i) ≡ true → SoundWith n faulty p
-any-sound n faulty p h =
-    let w = any-some n (λ i. sound faulty i && p i) h in
-    record {
-      at = w .at;
-      box-sound = record { below = w .below; is-sound = and-left (sound faulty (w .at)) (p (w .at)) (w .passes) };
-      passes = and-right (sound faulty (w .at)) (p (w .at)) (w .passes);
-    }
+  pub counted : 1 ≤ sure i k
+  pub left : sure j k ≡ 0
 
 module _ (s : Run) (table : List ℕ) (legal : Legal s) (fair : Fair (s .n) (s .t) (s .faulty) (s .rows) (s .lists)) where
   abbrev sure : ℕ → ℕ → ℕ
@@ -124,15 +110,21 @@ module _ (s : Run) (table : List ℕ) (legal : Legal s) (fair : Fair (s .n) (s .
         near (s .n) (s .faulty) (λ k. v) (graded i) v (λ k sk. sym (promises .sound-leader i k si sk .1 ∙ h k sk)),
       ))
 
-  -- does box i count leader k, or leave it?
-  abbrev counter : ℕ → ℕ → Bool
-  counter k i = sound (s .faulty) i && not (eqb (sure i k) 0)
+  -- does box i count leader k, or leave it? Do some sound boxes count it and others leave it?
+  abbrev counts : ℕ → ℕ → Bool
+  counts k i = not (eqb (sure i k) 0)
 
-  abbrev leaver : ℕ → ℕ → Bool
-  leaver k j = sound (s .faulty) j && eqb (sure j k) 0
+  abbrev leaves : ℕ → ℕ → Bool
+  leaves k j = eqb (sure j k) 0
+
+  abbrev someCount : ℕ → Bool
+  someCount k = any (s .n) (λ i. sound (s .faulty) i && counts k i)
+
+  abbrev someLeave : ℕ → Bool
+  someLeave k = any (s .n) (λ j. sound (s .faulty) j && leaves k j)
 
   abbrev parted : ℕ → Bool
-  parted k = any (s .n) (counter k) && any (s .n) (leaver k)
+  parted k = someCount k && someLeave k
 
   found : Some (s .n) parted → Split (s .n) (s .faulty) sure
   found w =
@@ -143,20 +135,15 @@ module _ (s : Run) (table : List ℕ) (legal : Legal s) (fair : Fair (s .n) (s .
         leader = w .below;
         counting = a .box-sound;
         leaving = b .box-sound;
-        counts =
-            positive (eqb-false (sure (a .at) (w .at)) 0 (not-true (eqb (sure (a .at) (w .at)) 0) (a .passes)));
-        leaves = eqb-true (sure (b .at) (w .at)) 0 (b .passes);
+        counted = positive (eqb-false (sure (a .at) (w .at)) 0 (not-true (eqb (sure (a .at) (w .at)) 0) (a .passes)));
+        left = eqb-true (sure (b .at) (w .at)) 0 (b .passes);
       }
     where
-      a : SoundWith (s .n) (s .faulty) (λ i. not (eqb (sure i (w .at)) 0))
-      a =
-          any-sound (s .n) (s .faulty) (λ i. not (eqb (sure i (w .at)) 0))
-          (and-left (any (s .n) (counter (w .at))) (any (s .n) (leaver (w .at))) (w .passes))
+      a : SoundWith (s .n) (s .faulty) (counts (w .at))
+      a = any-sound (s .n) (s .faulty) (counts (w .at)) (and-left (someCount (w .at)) (someLeave (w .at)) (w .passes))
 
-      b : SoundWith (s .n) (s .faulty) (λ j. eqb (sure j (w .at)) 0)
-      b =
-          any-sound (s .n) (s .faulty) (λ j. eqb (sure j (w .at)) 0)
-          (and-right (any (s .n) (counter (w .at))) (any (s .n) (leaver (w .at))) (w .passes))
+      b : SoundWith (s .n) (s .faulty) (leaves (w .at))
+      b = any-sound (s .n) (s .faulty) (leaves (w .at)) (and-right (someCount (w .at)) (someLeave (w .at)) (w .passes))
 
   -- where no leader parts the sound boxes, their graded rows are the same
   same-graded : any (s .n) parted ≡ false → (i j : ℕ) → SoundBox (s .n) (s .faulty) i → SoundBox (s .n) (s .faulty) j →
@@ -167,8 +154,8 @@ module _ (s : Run) (table : List ℕ) (legal : Legal s) (fair : Fair (s .n) (s .
       apart a b sa sb y z =
           never
           (both
-          (some-any (s .n) (counter k) a (sa .below) (both (sa .is-sound) (not-of-false (ne-eqb (sure a k) 0 y))))
-          (some-any (s .n) (leaver k) b (sb .below) (both (sb .is-sound) (eq-eqb (sure b k) 0 z))))
+          (sound-any (s .n) (s .faulty) (counts k) a sa (not-of-false (ne-eqb (sure a k) 0 y)))
+          (sound-any (s .n) (s .faulty) (leaves k) b sb (eq-eqb (sure b k) 0 z)))
           (any-none (s .n) parted none k l)
 
       zero-row : (a : ℕ) → sure a k ≡ 0 → graded a k ≡ 0
@@ -214,10 +201,10 @@ module _ (s : Run) (table : List ℕ) (legal : Legal s) (fair : Fair (s .n) (s .
       absurd
       (omega (
         arith,
-        w .counts,
+        w .counted,
         promises .all-listed (w .k) (condemned-is (s .n) (s .faulty) (s .lists) (w .k) c) (w .i) (w .counting),
       )))
       (λ f. f)
       (either (condemned (s .n) (s .faulty) (s .lists) (w .k))))
       (is-condemned (s .n) (s .faulty) (nextRun s table .lists) (w .k)
-      (split-joins (w .j) (w .k) (w .leaving) (w .leader) (w .leaves)))
+      (split-joins (w .j) (w .k) (w .leaving) (w .leader) (w .left)))

@@ -1,4 +1,5 @@
 pub mod Blind
+pub mod Boxes
 pub mod Grades
 pub mod Listed
 pub mod Messages

@@ -1,36 +1,19 @@
 -- Columns that agree at the sound boxes differ in at most as many places as there are faulty boxes, so the places of a row do.
 -- Assumes nothing.
 use mathlib.Core.Path.{_≡_, refl, _∙_, subst}
-use mathlib.Core.Bool.{true, false, not, _&&_}
+use mathlib.Core.Bool.{true, not, _&&_}
 use Prim.Native.Nat.{ℕ, _+_, _≤_}
 use native.Mathlib.Omega.{arith}
-use lib.Dec.{eqb, ltb}
-use borrow.Author.Tests.{ltb-true, lt-ltb, eq-eqb, ne-eqb}
+use lib.Dec.{eqb}
+use borrow.Author.Tests.{eq-eqb, ne-eqb}
 use Rattle.counting.specs.Count.{build}
 use Rattle.counting.specs.Sets.{member}
 use Rattle.counting.specs.Most.{places}
-use Rattle.counting.proofs.Bools.{both, and-left, and-right, not-true, not-of-false}
+use Rattle.counting.proofs.Bools.{and-left, and-right, not-true}
 use Rattle.counting.proofs.Count.{count-mono, count-parted, count-all, count-none}
 use Rattle.counting.proofs.Places.{places-build}
-use Rattle.sizes.specs.Sizes.{sound}
 use Rattle.gradecast.specs.Fair.{SoundBox, faultyBoxes}
-
--- a box that is not sound is faulty
-pub sound-not-faulty : (faulty j : ℕ) → sound faulty j ≡ true → member faulty j ≡ false
-unfolding sound
-sound-not-faulty faulty j h = not-true (member faulty j) h
-
-pub not-faulty-sound : (faulty j : ℕ) → member faulty j ≡ false → sound faulty j ≡ true
-unfolding sound
-not-faulty-sound faulty j h = not-of-false h
-
--- the test of a sound box among the n, both ways
-pub is-box : {n faulty k : ℕ} → SoundBox n faulty k → (ltb k n && sound faulty k) ≡ true
-is-box {n} {k = k} b = both (lt-ltb k n (b .below)) (b .is-sound)
-
-pub box-is : (n faulty k : ℕ) → (ltb k n && sound faulty k) ≡ true → SoundBox n faulty k
-box-is n faulty k h =
-    record { below = ltb-true k n (and-left (ltb k n) (sound faulty k) h); is-sound = and-right (ltb k n) (sound faulty k) h }
+use Rattle.gradecast.proofs.Boxes.{not-faulty-sound}
 
 -- a column in which every place is c
 pub all-places : (n c : ℕ) → places (build n (λ j. c)) c ≡ n

@@ -22,9 +22,10 @@ use Rattle.tally.specs.Tally.{voteOf, confidenceOf, gradedRow, supportOf}
 use Rattle.tally.proofs.Laws.{vote-carried, vote-none, vote-is, confidence-2, confidence-0, places-support, graded-counts, graded-firm}
 use Rattle.gradecast.specs.Steps.{place1, place2, place3, sends, hears, heard1, heard2, column2, voted, heard3, column3, confidence, gradeRow}
 use Rattle.gradecast.specs.Fair.{SoundBox, Fair, Gradecast, faultyBoxes}
+use Rattle.gradecast.proofs.Boxes.{sound-not-faulty, not-faulty-sound}
 use Rattle.gradecast.proofs.Grades.{positive, at-most-2, row-not-zero}
 use Rattle.gradecast.proofs.Listed.{listed-heard1}
-use Rattle.gradecast.proofs.Near.{sound-not-faulty, not-faulty-sound, all-places, no-places, near}
+use Rattle.gradecast.proofs.Near.{all-places, no-places, near}
 
 -- a sound box whose row in the column is v
 record Witness (n faulty : ℕ) (f : ℕ → ℕ) (v : ℕ) : Type 0 where
@@ -156,13 +157,11 @@ module _ {n t faulty : ℕ} {rows lists : List ℕ} (fair : Fair n t faulty rows
   unfolding heard1
   heard1-is i k si sk = hears-sound i k (place1 n k i) (getD rows k 0) si sk
 
-  heard2-is : (i j k : ℕ) → SoundBox n faulty i → SoundBox n faulty j →
-      Xof i j k ≡ Vof j k
+  heard2-is : (i j k : ℕ) → SoundBox n faulty i → SoundBox n faulty j → Xof i j k ≡ Vof j k
   unfolding heard2
   heard2-is i j k si sj = hears-sound i j (place2 n j i k) (Vof j k) si sj
 
-  heard3-is : (i j k : ℕ) → SoundBox n faulty i → SoundBox n faulty j →
-      Zof i j k ≡ Yof j k
+  heard3-is : (i j k : ℕ) → SoundBox n faulty i → SoundBox n faulty j → Zof i j k ≡ Yof j k
   unfolding heard3
   heard3-is i j k si sj = hears-sound i j (place3 n j i k) (Yof j k) si sj
 
@@ -183,16 +182,13 @@ module _ {n t faulty : ℕ} {rows lists : List ℕ} (fair : Fair n t faulty rows
   same-heard3 i j k si sj l sl = heard3-is i l k si sl ∙ sym (heard3-is j l k sj sl)
 
   votes-once : (i j k : ℕ) → SoundBox n faulty i → SoundBox n faulty j →
-      (Yof i k ≡ 0 → ⊥) → (Yof j k ≡ 0 → ⊥) →
-      Yof i k ≡ Yof j k
+      (Yof i k ≡ 0 → ⊥) → (Yof j k ≡ 0 → ⊥) → Yof i k ≡ Yof j k
   unfolding voted column2
   votes-once i j k si sj y z =
-      vote-one (fair .tolerated) (fair .few) (λ l. Xof i l k)
-      (λ l. Xof j l k) (same-heard2 i j k si sj) y z
+      vote-one (fair .tolerated) (fair .few) (λ l. Xof i l k) (λ l. Xof j l k) (same-heard2 i j k si sj) y z
 
   -- a row that counts at a sound box is a sound box's vote
-  voter : (i k : ℕ) → SoundBox n faulty i → (sure i k ≡ 0 → ⊥) →
-      Witness n faulty (λ l. Yof l k) (graded i k)
+  voter : (i k : ℕ) → SoundBox n faulty i → (sure i k ≡ 0 → ⊥) → Witness n faulty (λ l. Yof l k) (graded i k)
   unfolding confidence gradeRow column3
   voter i k si z =
       let w = grade-witness (fair .tolerated) (fair .few) (λ l. Zof i l k) z in
@@ -200,8 +196,7 @@ module _ {n t faulty : ℕ} {rows lists : List ℕ} (fair : Fair n t faulty rows
 
   -- two sound boxes that count a leader each count a sound box's vote
   counts-once : (i j k : ℕ) → SoundBox n faulty i → SoundBox n faulty j →
-      (sure i k ≡ 0 → ⊥) → (sure j k ≡ 0 → ⊥) →
-      graded i k ≡ graded j k
+      (sure i k ≡ 0 → ⊥) → (sure j k ≡ 0 → ⊥) → graded i k ≡ graded j k
   counts-once i j k si sj y z =
       let a = voter i k si y in
       let b = voter j k sj z in
@@ -211,12 +206,11 @@ module _ {n t faulty : ℕ} {rows lists : List ℕ} (fair : Fair n t faulty rows
       (λ e. row-not-zero n t faulty rows lists table j k z (sym (b .here) ∙ e))
       ∙ b .here
 
-  never-none : (i j k : ℕ) → SoundBox n faulty i → SoundBox n faulty j →
-      sure i k ≡ 2 → sure j k ≡ 0 → ⊥
+  never-none : (i j k : ℕ) → SoundBox n faulty i → SoundBox n faulty j → sure i k ≡ 2 → sure j k ≡ 0 → ⊥
   unfolding confidence column3
   never-none i j k si sj =
-      grade-near (fair .tolerated) (fair .few) (λ l. Zof i l k)
-      (λ l. Zof j l k) (same-heard3 i j k si sj)
+      grade-near (fair .tolerated) (fair .few) (λ l. Zof i l k) (λ l. Zof j l k)
+      (same-heard3 i j k si sj)
 
   -- a leader on every sound list: nothing of it is heard, so nothing is sent on
   all-silent : (k : ℕ) → ((i : ℕ) → SoundBox n faulty i → member (getD lists i 0) k ≡ true) →

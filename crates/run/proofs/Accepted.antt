@@ -2,19 +2,19 @@
 -- that holds, and no number is 0.
 -- Assumes nothing.
 use mathlib.Core.Path.{_≡_, refl}
-use mathlib.Core.Bool.{Bool, true, false, not, _&&_, _||_}
+use mathlib.Core.Bool.{false, not, _||_}
 use mathlib.Core.List.{List}
-use Prim.Native.Nat.{ℕ, _≤_, _<_}
+use Prim.Native.Nat.{ℕ, _≤_}
 use lib.Dec.{eqb, ltb}
 use lib.ListN.{length, getD}
 use borrow.Author.Tests.{eqb-true, eqb-false, eq-eqb, ne-eqb, ltb-false, le-ltb}
 use Rattle.counting.specs.Count.{any}
 use Rattle.counting.specs.Refuse.{firstOf}
 use Rattle.counting.proofs.Bools.{not-false, or-false-left, or-false-right}
-use Rattle.counting.proofs.Count.{any-none, none-any}
 use Rattle.counting.proofs.Refuse.{accepted}
-use Rattle.sizes.specs.Sizes.{outside, tooMany, stray, tableRows, sound, soundZero}
+use Rattle.sizes.specs.Sizes.{outside, tooMany, stray, tableRows, soundZero}
 use Rattle.gradecast.specs.Fair.{SoundRowsNotZero}
+use Rattle.gradecast.proofs.Boxes.{no-sound, sound-none}
 use Rattle.run.specs.declared.Run.{Run}
 use Rattle.run.specs.State.{startRefusal, badPlace, tooManySent, iterateRefusal}
 use Rattle.run.specs.Legal.{Legal}
@@ -101,14 +101,8 @@ module _ (n t faulty : ℕ) (rows : List ℕ) where
 module _ (n faulty : ℕ) (rows : List ℕ) where
   pub rows-not-zero : soundZero n faulty rows ≡ false → SoundRowsNotZero n faulty rows
   unfolding soundZero
-  rows-not-zero h k b =
-      eqb-false (getD rows k 0) 0
-      (rw (b .is-sound) at (any-none n (λ j. sound faulty j && eqb (getD rows j 0) 0) h k (b .below)))
+  rows-not-zero h k b = eqb-false (getD rows k 0) 0 (no-sound n faulty (λ j. eqb (getD rows j 0) 0) h k b)
 
   pub not-zero-rows : SoundRowsNotZero n faulty rows → soundZero n faulty rows ≡ false
   unfolding soundZero
-  not-zero-rows h = none-any n (λ j. sound faulty j && eqb (getD rows j 0) 0) (λ k l. go k l (sound faulty k) refl)
-    where
-      go : (k : ℕ) → k < n → (b : Bool) → sound faulty k ≡ b → (b && eqb (getD rows k 0) 0) ≡ false
-      go k l true e = ne-eqb (getD rows k 0) 0 (h k (record { below = l; is-sound = e }))
-      go k l false e = refl
+  not-zero-rows h = sound-none n faulty (λ j. eqb (getD rows j 0) 0) (λ k b. ne-eqb (getD rows k 0) 0 (h k b))

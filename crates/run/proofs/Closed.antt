@@ -20,7 +20,7 @@ use Rattle.sizes.specs.Sizes.{stray, tableRows, sound}
 use Rattle.sizes.proofs.Laws.{inside-high, lt-within}
 use Rattle.gradecast.specs.Steps.{messages}
 use Rattle.gradecast.specs.Fair.{SoundBox, SoundRowsNotZero}
-use Rattle.gradecast.proofs.Near.{is-box, box-is}
+use Rattle.gradecast.proofs.Boxes.{is-box, box-is}
 use Rattle.gradecast.proofs.Messages.{messages-bound}
 use Rattle.run.specs.declared.Run.{Run}
 use Rattle.run.specs.Iteration.{confidences, newList, nextRun}

@@ -3,33 +3,28 @@
 -- leaders with confidence 0 or 1.
 -- Assumes nothing.
 use mathlib.Core.Path.{_≡_, refl, sym, ap, _∙_}
-use mathlib.Core.Bool.{Bool, true, false, cond, _&&_, _||_}
+use mathlib.Core.Bool.{Bool, true, false, cond, _||_}
 use mathlib.Core.List.{List}
-use mathlib.Core.Logic.{⊎-elim}
 use Prim.Native.Nat.{ℕ, _≤_, _<_}
 use native.Mathlib.Omega.{arith}
 use lib.Dec.{eqb, ltb}
 use lib.ListN.{getD, getD-replicate}
 use borrow.Author.Tests.{eqb-false}
 use Rattle.counting.specs.Count.{build}
+use Rattle.counting.specs.Most.{most}
 use Rattle.counting.specs.Sets.{member}
-use Rattle.counting.proofs.Bools.{either, or-true-left, cond-true, cond-false}
+use Rattle.counting.proofs.Bools.{or-true-left, cond-true, cond-false}
 use Rattle.counting.proofs.Build.{length-build, getD-build}
 use Rattle.counting.proofs.Sets.{member-setOf}
-use Rattle.counting.specs.Most.{most}
-use Rattle.sizes.specs.Sizes.{sound}
 use Rattle.tally.specs.Tally.{chosenRow}
 use Rattle.tally.proofs.Laws.{chosen-all}
 use Rattle.gradecast.specs.Steps.{confidence, gradeRow}
 use Rattle.gradecast.specs.Fair.{SoundBox}
 use Rattle.gradecast.proofs.Grades.{row-none}
-use Rattle.gradecast.proofs.Near.{is-box, box-is}
+use Rattle.gradecast.proofs.Boxes.{is-box, no-box}
 use Rattle.run.specs.declared.Run.{Run}
 use Rattle.run.specs.State.{startRow, startRun}
 use Rattle.run.specs.Iteration.{gradedRows, confidences, newRow, newList, entry, nextRun}
-
-no-box : (n faulty k : ℕ) → (SoundBox n faulty k → ⊥) → (ltb k n && sound faulty k) ≡ false
-no-box n faulty k h = ⊎-elim (λ t. absurd (h (box-is n faulty k t))) (λ f. f) (either (ltb k n && sound faulty k))
 
 module _ (n t faulty : ℕ) (rows : List ℕ) where
   pub start-row : (k : ℕ) → n ≤ 13 → SoundBox n faulty k → getD (startRun n t faulty rows .rows) k 0 ≡ getD rows k 0

@@ -229,7 +229,8 @@ module _ (rows confidences : List ℕ) where
       getD rows k 0 ≡ 0
   unfolding chosenRow
   chosen-none e k l c =
-      rw (ne-eqb (getD confidences k 0) 0 c) at (sym (counted-at k l)) ∙ most-zero (counted rows confidences) e k (omega (arith, length-counted))
+      sym (counted-at k l ∙ cond-false 0 (getD rows k 0) (ne-eqb (getD confidences k 0) 0 c))
+      ∙ most-zero (counted rows confidences) e k (omega (arith, length-counted))
 
   -- where confidence 0 comes with row 0, as in a grade, every row counts as it stands
   pub chosen-all : ((k : ℕ) → k < length rows → getD confidences k 0 ≡ 0 → getD rows k 0 ≡ 0) →
