@@ -13,7 +13,7 @@ use Rattle.counting.specs.Refuse.{firstOf}
 use Rattle.sizes.specs.Sizes.{outside, tooMany, stray, tableRows, sound, soundZero}
 use Rattle.sizes.proofs.Laws.{inside-low, inside-high, tolerated-lt, within-lt}
 use Rattle.tally.specs.Tally.{carried, voteOf, supportOf, confidenceAt, confidenceOf, gradedRow, counted, chosenRow}
-use Rattle.gradecast.specs.Steps.{place1, place2, place3, sends, hears, heard1, heard2, column2, voted, heard3, column3, confidence, gradeRow, sentTo, messages}
+use Rattle.gradecast.specs.Steps.{place1, placeFrom, place2, place3, sends, hears, heard1, heard2, column2, voted, heard3, column3, confidence, gradeRow, sentTo, messages}
 use Rattle.gradecast.specs.Fair.{faultyBoxes}
 use Rattle.gradecast.proofs.Grades.{positive}
 use Rattle.run.specs.Iteration.{gradedRows, confidences, newRow, newList, entry, nextRun}
@@ -39,7 +39,7 @@ start-setting n t faulty rows tables e few sized =
     }
 
 pub bounds-needed : BoundsNeeded
-unfolding sum count any build find member setOf places support before best most firstOf outside tooMany stray tableRows carried voteOf supportOf confidenceAt confidenceOf gradedRow counted chosenRow sound place1 place2 place3 sends hears heard1 heard2 column2 voted heard3 column3 confidence gradeRow sentTo messages gradedRows confidences newRow newList entry nextRun soundZero startRow startRefusal startRun startReply badPlace tooManySent iterateRefusal iterateReply after
+unfolding sum count any build find member setOf places support before best most firstOf outside tooMany stray tableRows carried voteOf supportOf confidenceAt confidenceOf gradedRow counted chosenRow sound place1 placeFrom place2 place3 sends hears heard1 heard2 column2 voted heard3 column3 confidence gradeRow sentTo messages gradedRows confidences newRow newList entry nextRun soundZero startRow startRefusal startRun startReply badPlace tooManySent iterateRefusal iterateReply after
 bounds-needed =
     record {
       too-few-iterations =

@@ -7,9 +7,9 @@ use Prim.Native.Nat.{ℕ, zero, suc, _+_, _≤_, _<_}
 use native.Mathlib.Nat.{le-refl, not-suc-le-zero}
 use native.Mathlib.Numerals.{add-one}
 use native.Mathlib.Omega.{arith}
-use lib.ListN.{length, getD, take, set, length-append, List·getD-append}
-use lib.Seq.{take-suc-set, getD-at, take-all, ext-getD, take-suc, getD-take}
-use Rattle.counting.specs.Count.{build}
+use lib.ListN.{length, getD, take, drop, set, length-append, length-drop, List·getD-append}
+use lib.Seq.{take-suc-set, getD-at, take-all, ext-getD, getD-take, drop-cons, set-at, append-snoc, take-at}
+use Rattle.counting.specs.Count.{build, front}
 use Rattle.counting.proofs.Count.{lower, at-or-below}
 
 pub length-build : (n : ℕ) (f : ℕ → ℕ) → length (build n f) ≡ n
@@ -59,3 +59,36 @@ filled n f xs e h = sym (take-all n xs (omega arith)) ∙ h
 pub filled-at : (n : ℕ) (f : ℕ → ℕ) (xs : List ℕ) → take n xs ≡ build n f → (k : ℕ) → k < n → getD xs k 0 ≡ f k
 filled-at n f xs h k l =
     sym (getD-take n xs k 0 l) ∙ ap (λ (ys : List ℕ). getD ys k 0) h ∙ getD-build n f k 0 l
+
+-- a list that is written at its front, one place a turn: it keeps its length, its front holds f and its rest stays
+pub front-none : (f : ℕ → ℕ) (xs : List ℕ) → xs ≡ front 0 f xs
+unfolding front build
+front-none f xs = refl
+
+pub front-turn : (n : ℕ) (f : ℕ → ℕ) (xs ys : List ℕ) {v : ℕ} → n < length xs → ys ≡ front n f xs → v ≡ f n →
+    set ys n v ≡ front (n + 1) f xs
+unfolding front build
+front-turn n f xs ys {v} l e h =
+    rw add-one
+    (ap (λ (zs : List ℕ). set zs n v) (e ∙ ap (λ (zs : List ℕ). build n f ++ zs) (drop-cons xs n 0 l))
+    ∙ set-at (build n f) (getD xs n 0) (drop (suc n) xs) v n (length-build n f)
+    ∙ ap (λ (x : ℕ). build n f ++ x ∷ drop (suc n) xs) h
+    ∙ sym (append-snoc (build n f) (f n) (drop (suc n) xs)))
+
+pub front-length : (n : ℕ) (f : ℕ → ℕ) (xs : List ℕ) → n ≤ length xs → length (front n f xs) ≡ length xs
+unfolding front
+front-length n f xs l =
+    length-append (build n f) (drop n xs) ∙ omega (arith, length-build n f, length-drop n xs)
+
+pub front-at : (n : ℕ) (f : ℕ → ℕ) (xs : List ℕ) (k : ℕ) → k < n → getD (front n f xs) k 0 ≡ f k
+unfolding front
+front-at n f xs k l =
+    List·getD-append (build n f) (drop n xs) 0 k (omega (arith, length-build n f)) ∙ getD-build n f k 0 l
+
+pub front-take : (n : ℕ) (f : ℕ → ℕ) (xs : List ℕ) → take n (front n f xs) ≡ build n f
+unfolding front
+front-take n f xs = take-at (build n f) (drop n xs) n (length-build n f)
+
+pub front-ext : (n : ℕ) (f g : ℕ → ℕ) (xs : List ℕ) → ((k : ℕ) → k < n → f k ≡ g k) → front n f xs ≡ front n g xs
+unfolding front
+front-ext n f g xs h = ap (λ (ys : List ℕ). ys ++ drop n xs) (build-ext n f g h)

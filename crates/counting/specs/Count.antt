@@ -3,6 +3,7 @@
 use Prim.Native.Nat.{ℕ, zero, suc, _+_}
 use mathlib.Core.Bool.{Bool, cond, _||_}
 use mathlib.Core.List.{List, [], _∷_, _++_}
+use lib.ListN.{drop}
 
 -- f 0 + f 1 + .. + f (n − 1)
 unfoldable pub sum : ℕ → (ℕ → ℕ) → ℕ
@@ -28,3 +29,7 @@ build (suc n) f = build n f ++ (f n ∷ [])
 unfoldable pub find : ℕ → (ℕ → Bool) → (ℕ → ℕ) → ℕ
 find zero p f = 0
 find (suc n) p f = cond (p (f n)) (f n) (find n p f)
+
+-- the list with f 0, .., f (n − 1) at its front, the rest of which stays
+unfoldable pub front : ℕ → (ℕ → ℕ) → List ℕ → List ℕ
+front n f xs = build n f ++ drop n xs

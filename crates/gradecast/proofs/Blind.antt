@@ -19,8 +19,8 @@ use Rattle.gradecast.proofs.Messages.{sentByOne, messages-quick}
 
 module _ (n t faulty : ℕ) (rows lists a b : List ℕ) (same : SameLies n faulty a b) where
   heard-same : (i j place x y : ℕ) → (member faulty j ≡ true → getD a place 0 ≡ getD b place 0) → x ≡ y →
-      hears n t faulty rows lists a i j (sends n t faulty rows lists a j place x) ≡
-      hears n t faulty rows lists b i j (sends n t faulty rows lists b j place y)
+      hears (getD lists i 0) j (sends faulty a j place x) ≡
+      hears (getD lists i 0) j (sends faulty b j place y)
   unfolding hears sends
   heard-same i j place x y h e = ap (λ (m : ℕ). cond (member (getD lists i 0) j) 0 m) (go (member faulty j) h)
     where
@@ -28,7 +28,7 @@ module _ (n t faulty : ℕ) (rows lists a b : List ℕ) (same : SameLies n fault
       go true f = f refl
       go false f = e
 
-  heard1-same : (i k : ℕ) → i < n → k < n → heard1 n t faulty rows lists a i k ≡ heard1 n t faulty rows lists b i k
+  heard1-same : (i k : ℕ) → i < n → k < n → heard1 n faulty rows lists a i k ≡ heard1 n faulty rows lists b i k
   unfolding heard1
   heard1-same i k li lk =
       heard-same i k (place1 n k i) (getD rows k 0) (getD rows k 0) (λ f. same .step1 k i lk li f) refl
@@ -37,9 +37,9 @@ module _ (n t faulty : ℕ) (rows lists a b : List ℕ) (same : SameLies n fault
   unfolding voted column2 heard2
   voted-same i k li lk =
       ap (voteOf t)
-      (build-ext n (λ j. heard2 n t faulty rows lists a i j k) (λ j. heard2 n t faulty rows lists b i j k)
+      (build-ext n (λ j. heard2 n faulty rows lists a i j k) (λ j. heard2 n faulty rows lists b i j k)
       (λ j lj.
-      heard-same i j (place2 n j i k) (heard1 n t faulty rows lists a j k) (heard1 n t faulty rows lists b j k)
+      heard-same i j (place2 n j i k) (heard1 n faulty rows lists a j k) (heard1 n faulty rows lists b j k)
       (λ f. same .step2 j i k lj li lk f) (heard1-same j k lj lk)))
 
   column3-same : (i k : ℕ) → i < n → k < n → column3 n t faulty rows lists a i k ≡ column3 n t faulty rows lists b i k
@@ -76,5 +76,5 @@ module _ (n t faulty : ℕ) (rows lists a b : List ℕ) (same : SameLies n fault
       by-one : (j : ℕ) → j < n → sentByOne n t faulty rows lists a j ≡ sentByOne n t faulty rows lists b j
       by-one j lj =
           ap₂ (λ (x y : ℕ). cond (eqb (getD rows j 0) 0) 0 1 + x + y)
-          (non-zeros (heard1 n t faulty rows lists a j) (heard1 n t faulty rows lists b j) (λ k lk. heard1-same j k lj lk))
+          (non-zeros (heard1 n faulty rows lists a j) (heard1 n faulty rows lists b j) (λ k lk. heard1-same j k lj lk))
           (non-zeros (voted n t faulty rows lists a j) (voted n t faulty rows lists b j) (λ k lk. voted-same j k lj lk))

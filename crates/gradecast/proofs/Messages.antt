@@ -19,7 +19,7 @@ module _ (n t faulty : ℕ) (rows lists table : List ℕ) where
   abbrev pub sentByOne : ℕ → ℕ
   sentByOne j =
       cond (eqb (getD rows j 0) 0) 0 1 +
-      count n (λ k. not (eqb (heard1 n t faulty rows lists table j k) 0)) +
+      count n (λ k. not (eqb (heard1 n faulty rows lists table j k) 0)) +
       count n (λ k. not (eqb (voted n t faulty rows lists table j k) 0))
 
   -- the quick formula
@@ -39,7 +39,7 @@ module _ (n t faulty : ℕ) (rows lists table : List ℕ) where
       omega (
         arith,
         one-at-most (eqb (getD rows j 0) 0),
-        count-le n (λ k. not (eqb (heard1 n t faulty rows lists table j k) 0)),
+        count-le n (λ k. not (eqb (heard1 n faulty rows lists table j k) 0)),
         count-le n (λ k. not (eqb (voted n t faulty rows lists table j k) 0)),
       )
   at-most false j = omega arith

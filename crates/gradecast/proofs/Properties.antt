@@ -129,10 +129,10 @@ module _ {n t faulty : ℕ} (tolerated : 3 * t < n) (few : faultyBoxes n faulty 
 module _ {n t faulty : ℕ} {rows lists : List ℕ} (fair : Fair n t faulty rows lists) (table : List ℕ) where
   -- the document's V, X, Y, Z and the grades
   abbrev Vof : ℕ → ℕ → ℕ
-  Vof = heard1 n t faulty rows lists table
+  Vof = heard1 n faulty rows lists table
 
   abbrev Xof : ℕ → ℕ → ℕ → ℕ
-  Xof = heard2 n t faulty rows lists table
+  Xof = heard2 n faulty rows lists table
 
   abbrev Yof : ℕ → ℕ → ℕ
   Yof = voted n t faulty rows lists table
@@ -148,7 +148,7 @@ module _ {n t faulty : ℕ} {rows lists : List ℕ} (fair : Fair n t faulty rows
 
   -- a sound box hears what a sound box sends
   hears-sound : (i j place m : ℕ) → SoundBox n faulty i → SoundBox n faulty j →
-      hears n t faulty rows lists table i j (sends n t faulty rows lists table j place m) ≡ m
+      hears (getD lists i 0) j (sends faulty table j place m) ≡ m
   unfolding hears sends
   hears-sound i j place m si sj =
       rw (fair .none-listed i j si sj, sound-not-faulty faulty j (sj .is-sound)) refl

@@ -1,53 +1,57 @@
 -- Steps 1 to 4 of one iteration, for every box at once. Boxes and leaders count from 0. The rows and the lists are those
 -- held when the iteration began; the table says what the faulty boxes send.
 use Prim.Native.Nat.{ℕ, _+_, _*_}
-use mathlib.Core.Bool.{Bool, cond, not, _&&_}
+use mathlib.Core.Bool.{cond, not}
 use mathlib.Core.List.{List}
 use lib.Dec.{eqb}
 use lib.ListN.{getD}
 use Rattle.counting.specs.Count.{sum, count, build}
 use Rattle.counting.specs.Sets.{member}
-pub use Rattle.sizes.specs.Sizes.{sound}
+use Rattle.sizes.specs.Sizes.{sound}
 use Rattle.tally.specs.Tally.{voteOf, confidenceOf, gradedRow}
 
 -- the table: n² rows for step 1 (sender, then receiver), then n³ for step 2 (sender, receiver, leader) and n³ for step 3
 unfoldable pub place1 : ℕ → ℕ → ℕ → ℕ
 place1 n sender receiver = sender * n + receiver
 
+unfoldable pub placeFrom : ℕ → ℕ → ℕ → ℕ → ℕ → ℕ
+placeFrom base n sender receiver leader = base + ((sender * n + receiver) * n + leader)
+
 unfoldable pub place2 : ℕ → ℕ → ℕ → ℕ → ℕ
-place2 n sender receiver leader = n * n + ((sender * n + receiver) * n + leader)
+place2 n = placeFrom (n * n) n
 
 unfoldable pub place3 : ℕ → ℕ → ℕ → ℕ → ℕ
-place3 n sender receiver leader = n * n + n * n * n + ((sender * n + receiver) * n + leader)
+place3 n = placeFrom (n * n + n * n * n) n
 
-module _ (n t faulty : ℕ) (rows lists table : List ℕ) where
-  -- a sound box j sends m; a faulty box sends what the table says
-  unfoldable pub sends : ℕ → ℕ → ℕ → ℕ
-  sends j place m = cond (member faulty j) (getD table place 0) m
+-- a sound box j sends m; a faulty box sends what the table says
+unfoldable pub sends : ℕ → List ℕ → ℕ → ℕ → ℕ → ℕ
+sends faulty table j place m = cond (member faulty j) (getD table place 0) m
 
-  -- what box i hears from a sender j on its own list is 0
-  unfoldable pub hears : ℕ → ℕ → ℕ → ℕ
-  hears i j m = cond (member (getD lists i 0) j) 0 m
+-- what a box hears from a sender j on its own list is 0
+unfoldable pub hears : ℕ → ℕ → ℕ → ℕ
+hears list j m = cond (member list j) 0 m
 
+module _ (n faulty : ℕ) (rows lists table : List ℕ) where
   -- step 1, V[k]: what box i hears from k, whose row it is
   unfoldable pub heard1 : ℕ → ℕ → ℕ
-  heard1 i k = hears i k (sends k (place1 n k i) (getD rows k 0))
+  heard1 i k = hears (getD lists i 0) k (sends faulty table k (place1 n k i) (getD rows k 0))
 
-  -- step 2, X[j][k]: what box i hears from j about leader k
+  -- step 2, X[j][k]: what box i hears from j about leader k, each sound box sending V
   unfoldable pub heard2 : ℕ → ℕ → ℕ → ℕ
-  heard2 i j k = hears i j (sends j (place2 n j i k) (heard1 j k))
+  heard2 i j k = hears (getD lists i 0) j (sends faulty table j (place2 n j i k) (heard1 j k))
 
   -- X[1][k] to X[n][k]
   unfoldable pub column2 : ℕ → ℕ → List ℕ
   column2 i k = build n (λ j. heard2 i j k)
 
+module _ (n t faulty : ℕ) (rows lists table : List ℕ) where
   -- step 3, Y[k]: the vote of box i about leader k
   unfoldable pub voted : ℕ → ℕ → ℕ
-  voted i k = voteOf t (column2 i k)
+  voted i k = voteOf t (column2 n faulty rows lists table i k)
 
-  -- step 3, Z[j][k]: what box i hears from j about leader k
+  -- step 3, Z[j][k]: what box i hears from j about leader k, each sound box sending Y
   unfoldable pub heard3 : ℕ → ℕ → ℕ → ℕ
-  heard3 i j k = hears i j (sends j (place3 n j i k) (voted j k))
+  heard3 i j k = hears (getD lists i 0) j (sends faulty table j (place3 n j i k) (voted j k))
 
   -- Z[1][k] to Z[n][k]
   unfoldable pub column3 : ℕ → ℕ → List ℕ
@@ -64,7 +68,7 @@ module _ (n t faulty : ℕ) (rows lists table : List ℕ) where
   unfoldable pub sentTo : ℕ → ℕ → ℕ
   sentTo j i =
       cond (eqb (getD rows j 0) 0) 0 1 +
-      count n (λ k. not (eqb (heard1 j k) 0)) +
+      count n (λ k. not (eqb (heard1 n faulty rows lists table j k) 0)) +
       count n (λ k. not (eqb (voted j k) 0))
 
   -- messages of one iteration: by every sound sender to every receiver, the box itself being one of the n
