@@ -6,7 +6,6 @@ use lib.ListN.{getD, set, replicate}
 use Rattle.sizes.specs.Sizes.{tableRows}
 use Rattle.gradecast.specs.Steps.{place1, place2, place3, voted}
 use Rattle.gradecast.specs.Fair.{faultyBoxes, NoSoundListed, SoundRowsNotZero}
-use Rattle.run.specs.declared.Next.{Next}
 use Rattle.agreement.specs.Demand.{Setting, reply, rowsAfter, confidenceIn}
 
 -- a table in which nothing is sent

@@ -1,7 +1,7 @@
 -- What a table says of the faulty boxes. Its entries in a sound sender's place are never read.
 use Prim.Native.Nat.{ℕ, _<_}
 use mathlib.Core.Path.{_≡_}
-use mathlib.Core.Bool.{Bool, true}
+use mathlib.Core.Bool.{true}
 use mathlib.Core.List.{List}
 use lib.ListN.{getD}
 use Rattle.counting.specs.Sets.{member}

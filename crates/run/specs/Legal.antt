@@ -1,8 +1,7 @@
 -- A state that passes every test of the state itself: refusals 4, 5, 6, 9 and 14 are not given. An iteration still tests the
 -- table's length (11) and the iterations done (12).
-use Prim.Native.Nat.{ℕ}
 use mathlib.Core.Path.{_≡_}
-use mathlib.Core.Bool.{Bool, false}
+use mathlib.Core.Bool.{false}
 use Rattle.counting.specs.Count.{any}
 use Rattle.sizes.specs.Sizes.{outside, tooMany, stray, soundZero}
 use Rattle.run.specs.declared.Run.{Run}
