@@ -10,7 +10,7 @@ use native.Mathlib.Decide.{ℕ-discrete}
 use native.Mathlib.Numerals.{add-one}
 use native.Mathlib.Omega.{arith}
 use Rattle.counting.specs.Count.{sum, count, any, find}
-use Rattle.counting.proofs.Bools.{never, either, or-cases, or-false-left, or-false-right, or-none, and-left, and-right}
+use Rattle.counting.proofs.Bools.{never, either, both, not-of-false, or-cases, or-false-left, or-false-right, or-none, and-left, and-right}
 
 -- what holds of every k below suc n holds below n, and at n
 module _ {P : ℕ → Type 0} where
@@ -202,6 +202,17 @@ some-count n p k l t = go (count n p) refl
     go : (c : ℕ) → count n p ≡ c → 0 < count n p
     go (suc c) e = omega arith
     go zero e = never t (count-zero n p e k l)
+
+-- a larger test that passes a place more counts more
+pub count-strict : (n : ℕ) (p q : ℕ → Bool) → ((k : ℕ) → k < n → p k ≡ true → q k ≡ true) → (k : ℕ) → k < n →
+    p k ≡ false → q k ≡ true → count n p < count n q
+count-strict n p q h k l fails passes =
+    omega (
+      arith,
+      count-parted n q p,
+      count-mono n p (λ j. q j && p j) (λ j b e. both (h j b e) e),
+      some-count n (λ j. q j && not (p j)) k l (both passes (not-of-false fails)),
+    )
 
 -- two counts that together pass everything and a third test meet in a place outside that test
 pub count-meet : (n : ℕ) (p q f : ℕ → Bool) → n + count n f < count n p + count n q →

@@ -2,5 +2,6 @@ pub mod Bools
 pub mod Build
 pub mod Count
 pub mod Most
+pub mod Places
 pub mod Refuse
 pub mod Sets

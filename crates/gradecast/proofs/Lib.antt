@@ -1,3 +1,10 @@
+pub mod Blind
+pub mod Boxes
 pub mod Cells
+pub mod Grades
+pub mod Listed
+pub mod Messages
+pub mod Near
 pub mod Places
+pub mod Properties
 pub mod Sound

@@ -1,2 +1,3 @@
 pub mod Iteration
 pub mod State
+pub mod Legal

@@ -1,3 +1,4 @@
 pub mod Carried
+pub mod Laws
 pub mod Leads
 pub mod Replies

@@ -1,0 +1,4 @@
+pub mod Agreement
+pub mod Bounds
+pub mod Condemned
+pub mod Iteration

@@ -1,0 +1,247 @@
+-- Gradecast keeps its promises. Two columns that agree at the sound boxes differ in at most t places, so the places of a
+-- row differ by at most t. All else is counting with 3t < n: what every sound box says stands n − t times, which is more
+-- than half and more than 2t; what no sound box says stands at most t times, too few for a vote or a grade; two votes of
+-- n − t places at two sound boxes are n − 2t and n − t places in one column, more than there are; and a support of 2t + 1
+-- at one sound box is t + 1 at another.
+-- Assumes nothing.
+use mathlib.Core.Path.{_≡_, refl, sym, _∙_}
+use mathlib.Core.Bool.{true}
+use mathlib.Core.List.{List}
+use Prim.Native.Nat.{ℕ, _*_, _≤_, _<_}
+use native.Mathlib.Decide.{ℕ-discrete}
+use native.Mathlib.Omega.{arith}
+use lib.Dec.{eqb}
+use lib.ListN.{getD}
+use borrow.Author.Tests.{eqb-true}
+use Rattle.counting.specs.Count.{build}
+use Rattle.counting.specs.Sets.{member}
+use Rattle.counting.proofs.Build.{length-build}
+use Rattle.counting.proofs.Count.{Between, count-more}
+use Rattle.counting.proofs.Places.{places-build, places-one}
+use Rattle.tally.specs.Tally.{voteOf, confidenceOf, gradedRow, supportOf}
+use Rattle.tally.proofs.Laws.{vote-carried, vote-none, vote-is, confidence-2, confidence-0, places-support, graded-counts, graded-firm}
+use Rattle.gradecast.specs.Steps.{place1, place2, place3, sends, hears, heard1, heard2, column2, voted, heard3, column3, confidence, gradeRow}
+use Rattle.gradecast.specs.Fair.{SoundBox, Fair, Gradecast, faultyBoxes}
+use Rattle.gradecast.proofs.Boxes.{sound-not-faulty, not-faulty-sound}
+use Rattle.gradecast.proofs.Grades.{positive, at-most-2, row-not-zero}
+use Rattle.gradecast.proofs.Listed.{listed-heard1}
+use Rattle.gradecast.proofs.Near.{all-places, no-places, near}
+
+-- a sound box whose row in the column is v
+record Witness (n faulty : ℕ) (f : ℕ → ℕ) (v : ℕ) : Type 0 where
+  at : ℕ
+  box-sound : SoundBox n faulty at
+  here : f at ≡ v
+
+-- columns f and g, with at most t faulty boxes
+module _ {n t faulty : ℕ} (tolerated : 3 * t < n) (few : faultyBoxes n faulty ≤ t) where
+  -- what every sound box says is the vote, and has confidence 2
+  vote-all : (f : ℕ → ℕ) (v : ℕ) → (v ≡ 0 → ⊥) → ((j : ℕ) → SoundBox n faulty j → f j ≡ v) → voteOf t (build n f) ≡ v
+  vote-all f v z h =
+      vote-is t (build n f) (omega (arith, length-build n f)) v
+      (record {
+        not-zero = z;
+        enough = omega (arith, length-build n f, all-places n v, near n faulty (λ j. v) f v (λ j s. sym (h j s)));
+      })
+
+  grade-all : (f : ℕ → ℕ) (v : ℕ) → (v ≡ 0 → ⊥) → ((j : ℕ) → SoundBox n faulty j → f j ≡ v) →
+      (confidenceOf t (build n f) ≡ 2) × (gradedRow t (build n f) ≡ v)
+  grade-all f v z h =
+      let l = near n faulty (λ j. v) f v (λ j s. sym (h j s)) in
+      graded-firm t (build n f) v z
+      (omega (arith, length-build n f, all-places n v))
+      (omega (arith, all-places n v))
+
+  -- what no sound box says is no vote, and has confidence 0
+  vote-silent : (f : ℕ → ℕ) → ((j : ℕ) → SoundBox n faulty j → f j ≡ 0) → voteOf t (build n f) ≡ 0
+  vote-silent f h =
+      vote-none t (build n f)
+      (λ v c.
+      absurd
+      (omega (
+        arith,
+        c .enough,
+        length-build n f,
+        no-places n 0 v (λ e. c .not-zero (sym e)),
+        near n faulty f (λ j. 0) v h,
+      )))
+
+  grade-silent : (f : ℕ → ℕ) → ((j : ℕ) → SoundBox n faulty j → f j ≡ 0) → confidenceOf t (build n f) ≡ 0
+  grade-silent f h = go (ℕ-discrete (confidenceOf t (build n f)) 0)
+    where
+      go : Dec (confidenceOf t (build n f) ≡ 0) → confidenceOf t (build n f) ≡ 0
+      go (yes e) = e
+      go (no z) =
+          let v : ℕ = gradedRow t (build n f) in
+          let c = graded-counts t (build n f) z in
+          confidence-0 t (build n f) .1
+          (omega (arith, c .1, no-places n 0 v (λ e. c .0 (sym e)), near n faulty f (λ j. 0) v h))
+
+  -- where the sound boxes say the same in both columns, there are no two votes
+  vote-one : (f g : ℕ → ℕ) → ((j : ℕ) → SoundBox n faulty j → f j ≡ g j) →
+      (voteOf t (build n f) ≡ 0 → ⊥) → (voteOf t (build n g) ≡ 0 → ⊥) → voteOf t (build n f) ≡ voteOf t (build n g)
+  vote-one f g h y z =
+      places-one (build n g) (voteOf t (build n f)) (voteOf t (build n g))
+      (omega (
+        arith,
+        length-build n f,
+        length-build n g,
+        vote-carried t (build n f) y .enough,
+        vote-carried t (build n g) z .enough,
+        near n faulty f g (voteOf t (build n f)) h,
+      ))
+
+  -- and a row with confidence 2 in one counts in the other
+  grade-near : (f g : ℕ → ℕ) → ((j : ℕ) → SoundBox n faulty j → f j ≡ g j) →
+      confidenceOf t (build n f) ≡ 2 → confidenceOf t (build n g) ≡ 0 → ⊥
+  grade-near f g h two none =
+      let c = graded-counts t (build n f) (λ e. absurd (omega arith)) in
+      absurd
+      (omega (
+        arith,
+        c .1,
+        confidence-2 t (build n f) .0 two,
+        confidence-0 t (build n g) .0 none,
+        places-support (build n g) (gradedRow t (build n f)) (c .0),
+        near n faulty f g (gradedRow t (build n f)) h,
+      ))
+
+  -- a row that counts was said by a sound box
+  grade-witness : (f : ℕ → ℕ) → (confidenceOf t (build n f) ≡ 0 → ⊥) → Witness n faulty f (gradedRow t (build n f))
+  grade-witness f z =
+      record {
+        at = b .at;
+        box-sound = record { below = b .below; is-sound = not-faulty-sound faulty (b .at) (b .fails) };
+        here = eqb-true (f (b .at)) v (b .passes);
+      }
+    where
+      v : ℕ
+      v = gradedRow t (build n f)
+
+      above : supportOf (build n f) ≤ t → ⊥
+      above h = z (confidence-0 t (build n f) .1 h)
+
+      b : Between n (member faulty) (λ j. eqb (f j) v)
+      b =
+          count-more n (member faulty) (λ j. eqb (f j) v)
+          (omega (arith, above, graded-counts t (build n f) z .1, places-build n f v))
+
+module _ {n t faulty : ℕ} {rows lists : List ℕ} (fair : Fair n t faulty rows lists) (table : List ℕ) where
+  -- the document's V, X, Y, Z and the grades
+  abbrev Vof : ℕ → ℕ → ℕ
+  Vof = heard1 n faulty rows lists table
+
+  abbrev Xof : ℕ → ℕ → ℕ → ℕ
+  Xof = heard2 n faulty rows lists table
+
+  abbrev Yof : ℕ → ℕ → ℕ
+  Yof = voted n t faulty rows lists table
+
+  abbrev Zof : ℕ → ℕ → ℕ → ℕ
+  Zof = heard3 n t faulty rows lists table
+
+  abbrev sure : ℕ → ℕ → ℕ
+  sure = confidence n t faulty rows lists table
+
+  abbrev graded : ℕ → ℕ → ℕ
+  graded = gradeRow n t faulty rows lists table
+
+  -- a sound box hears what a sound box sends
+  hears-sound : (i j place m : ℕ) → SoundBox n faulty i → SoundBox n faulty j →
+      hears (getD lists i 0) j (sends faulty table j place m) ≡ m
+  unfolding hears sends
+  hears-sound i j place m si sj =
+      rw (fair .none-listed i j si sj, sound-not-faulty faulty j (sj .is-sound)) refl
+
+  heard1-is : (i k : ℕ) → SoundBox n faulty i → SoundBox n faulty k → Vof i k ≡ getD rows k 0
+  unfolding heard1
+  heard1-is i k si sk = hears-sound i k (place1 n k i) (getD rows k 0) si sk
+
+  heard2-is : (i j k : ℕ) → SoundBox n faulty i → SoundBox n faulty j → Xof i j k ≡ Vof j k
+  unfolding heard2
+  heard2-is i j k si sj = hears-sound i j (place2 n j i k) (Vof j k) si sj
+
+  heard3-is : (i j k : ℕ) → SoundBox n faulty i → SoundBox n faulty j → Zof i j k ≡ Yof j k
+  unfolding heard3
+  heard3-is i j k si sj = hears-sound i j (place3 n j i k) (Yof j k) si sj
+
+  -- a sound leader's row is every sound box's vote
+  sound-voted : (i k : ℕ) → SoundBox n faulty i → SoundBox n faulty k → Yof i k ≡ getD rows k 0
+  unfolding voted column2
+  sound-voted i k si sk =
+      vote-all (fair .tolerated) (fair .few) (λ j. Xof i j k) (getD rows k 0) (fair .none-zero k sk)
+      (λ j sj. heard2-is i j k si sj ∙ heard1-is j k sj sk)
+
+  -- two sound boxes see the same at the sound boxes, in step 3 and in step 4
+  same-heard2 : (i j k : ℕ) → SoundBox n faulty i → SoundBox n faulty j → (l : ℕ) → SoundBox n faulty l →
+      Xof i l k ≡ Xof j l k
+  same-heard2 i j k si sj l sl = heard2-is i l k si sl ∙ sym (heard2-is j l k sj sl)
+
+  same-heard3 : (i j k : ℕ) → SoundBox n faulty i → SoundBox n faulty j → (l : ℕ) → SoundBox n faulty l →
+      Zof i l k ≡ Zof j l k
+  same-heard3 i j k si sj l sl = heard3-is i l k si sl ∙ sym (heard3-is j l k sj sl)
+
+  votes-once : (i j k : ℕ) → SoundBox n faulty i → SoundBox n faulty j →
+      (Yof i k ≡ 0 → ⊥) → (Yof j k ≡ 0 → ⊥) → Yof i k ≡ Yof j k
+  unfolding voted column2
+  votes-once i j k si sj y z =
+      vote-one (fair .tolerated) (fair .few) (λ l. Xof i l k) (λ l. Xof j l k) (same-heard2 i j k si sj) y z
+
+  -- a row that counts at a sound box is a sound box's vote
+  voter : (i k : ℕ) → SoundBox n faulty i → (sure i k ≡ 0 → ⊥) → Witness n faulty (λ l. Yof l k) (graded i k)
+  unfolding confidence gradeRow column3
+  voter i k si z =
+      let w = grade-witness (fair .tolerated) (fair .few) (λ l. Zof i l k) z in
+      record { at = w .at; box-sound = w .box-sound; here = sym (heard3-is i (w .at) k si (w .box-sound)) ∙ w .here }
+
+  -- two sound boxes that count a leader each count a sound box's vote
+  counts-once : (i j k : ℕ) → SoundBox n faulty i → SoundBox n faulty j →
+      (sure i k ≡ 0 → ⊥) → (sure j k ≡ 0 → ⊥) → graded i k ≡ graded j k
+  counts-once i j k si sj y z =
+      let a = voter i k si y in
+      let b = voter j k sj z in
+      sym (a .here)
+      ∙ votes-once (a .at) (b .at) k (a .box-sound) (b .box-sound)
+      (λ e. row-not-zero n t faulty rows lists table i k y (sym (a .here) ∙ e))
+      (λ e. row-not-zero n t faulty rows lists table j k z (sym (b .here) ∙ e))
+      ∙ b .here
+
+  never-none : (i j k : ℕ) → SoundBox n faulty i → SoundBox n faulty j → sure i k ≡ 2 → sure j k ≡ 0 → ⊥
+  unfolding confidence column3
+  never-none i j k si sj =
+      grade-near (fair .tolerated) (fair .few) (λ l. Zof i l k) (λ l. Zof j l k)
+      (same-heard3 i j k si sj)
+
+  -- a leader on every sound list: nothing of it is heard, so nothing is sent on
+  all-silent : (k : ℕ) → ((i : ℕ) → SoundBox n faulty i → member (getD lists i 0) k ≡ true) →
+      (i : ℕ) → SoundBox n faulty i → sure i k ≡ 0
+  unfolding confidence column3 voted column2
+  all-silent k h i si =
+      grade-silent (fair .tolerated) (fair .few) (λ j. Zof i j k)
+      (λ j sj.
+      heard3-is i j k si sj
+      ∙ vote-silent (fair .tolerated) (fair .few) (λ l. Xof j l k)
+      (λ l sl. heard2-is j l k sj sl ∙ listed-heard1 n t faulty rows lists table l k (h l sl)))
+
+  -- the promises
+  pub gradecast : Gradecast n t faulty rows lists table
+  unfolding confidence gradeRow column3
+  gradecast =
+      record {
+        sound-leader =
+            λ i k si sk.
+            grade-all (fair .tolerated) (fair .few) (λ j. Zof i j k) (getD rows k 0)
+            (fair .none-zero k sk) (λ j sj. heard3-is i j k si sj ∙ sound-voted j k sj sk);
+        one-vote = votes-once;
+        one-row = counts-once;
+        firm-counts =
+            λ i j k si sj two.
+            let z = never-none i j k si sj two in
+            (positive z, counts-once j i k sj si z (λ e. absurd (omega arith)));
+        split-weak =
+            λ i j k si sj none.
+            let low = at-most-2 n t faulty rows lists table j k in
+            let z : sure j k ≡ 2 → ⊥ = λ two. never-none j i k sj si two none in
+            omega (arith, z);
+        all-listed = all-silent;
+      }

@@ -1,0 +1,118 @@
+-- Entries of the table in a sound sender's place are never read. Two tables that differ only there give the same grades and
+-- messages, so the same rows and lists, and where they are equally long the same refusal; and so a whole run of such tables,
+-- since n and the faulty set stay.
+-- Assumes nothing.
+use mathlib.Core.Path.{_≡_, refl, sym, ap, ap₂, _∙_, subst₂}
+use mathlib.Core.Bool.{Bool, true, false, cond, _&&_, _||_}
+use mathlib.Core.List.{List}
+use Prim.Native.Nat.{ℕ, zero, suc, _+_, _<_}
+use native.Mathlib.Nat.{le-refl}
+use lib.Dec.{eqb, ltb}
+use lib.ListN.{length, getD}
+use borrow.Author.Tests.{ltb-true}
+use Rattle.counting.specs.Count.{build}
+use Rattle.counting.specs.Sets.{member, setOf}
+use Rattle.counting.proofs.Bools.{and-left}
+use Rattle.counting.proofs.Build.{build-ext}
+use Rattle.counting.proofs.Count.{lower}
+use Rattle.sizes.specs.Sizes.{sound}
+use Rattle.tally.specs.Tally.{chosenRow}
+use Rattle.gradecast.specs.Steps.{confidence, gradeRow}
+use Rattle.gradecast.specs.Lies.{SameLies}
+use Rattle.gradecast.proofs.Blind.{confidence-same, grade-row-same, messages-same}
+use Rattle.run.specs.declared.Run.{Run}
+use Rattle.run.specs.declared.Next.{Next}
+use Rattle.run.specs.Iteration.{gradedRows, confidences, newRow, newList, entry, nextRun}
+use Rattle.run.specs.State.{iterateRefusal, iterateReply, after}
+
+module _ (s : Run) (a b : List ℕ) (same : SameLies (s .n) (s .faulty) a b) where
+  confidences-same : (i : ℕ) → i < s .n → confidences s a i ≡ confidences s b i
+  unfolding confidences
+  confidences-same i l =
+      build-ext (s .n) (confidence (s .n) (s .t) (s .faulty) (s .rows) (s .lists) a i)
+      (confidence (s .n) (s .t) (s .faulty) (s .rows) (s .lists) b i)
+      (λ k lk. confidence-same (s .n) (s .t) (s .faulty) (s .rows) (s .lists) a b same i k l lk)
+
+  graded-rows-same : (i : ℕ) → i < s .n → gradedRows s a i ≡ gradedRows s b i
+  unfolding gradedRows
+  graded-rows-same i l =
+      build-ext (s .n) (gradeRow (s .n) (s .t) (s .faulty) (s .rows) (s .lists) a i)
+      (gradeRow (s .n) (s .t) (s .faulty) (s .rows) (s .lists) b i)
+      (λ k lk. grade-row-same (s .n) (s .t) (s .faulty) (s .rows) (s .lists) a b same i k l lk)
+
+  new-row-same : (i : ℕ) → i < s .n → newRow s a i ≡ newRow s b i
+  unfolding newRow
+  new-row-same i l =
+      ap (λ (chosen : ℕ). cond (eqb chosen 0) (getD (s .rows) i 0) chosen)
+      (ap₂ chosenRow (graded-rows-same i l) (confidences-same i l))
+
+  new-list-same : (i : ℕ) → i < s .n → newList s a i ≡ newList s b i
+  unfolding newList
+  new-list-same i l =
+      ap (λ (cs : List ℕ). setOf (s .n) (λ k. member (getD (s .lists) i 0) k || ltb (getD cs k 0) 2)) (confidences-same i l)
+
+  -- the places of the next state agree where those of the sound boxes do
+  places-same : (f g : ℕ → ℕ) → ((i : ℕ) → i < s .n → f i ≡ g i) → build 13 (entry s a f) ≡ build 13 (entry s b g)
+  unfolding entry
+  places-same f g h =
+      build-ext 13 (entry s a f) (entry s b g) (λ i l. go i (ltb i (s .n) && sound (s .faulty) i) refl)
+    where
+      go : (i : ℕ) (c : Bool) → (ltb i (s .n) && sound (s .faulty) i) ≡ c → cond c (f i) 0 ≡ cond c (g i) 0
+      go i true e = h i (ltb-true i (s .n) (and-left (ltb i (s .n)) (sound (s .faulty) i) e))
+      go i false e = refl
+
+  next-same : nextRun s a ≡ nextRun s b
+  unfolding nextRun
+  next-same =
+      λ d.
+      record {
+        n = s .n;
+        t = s .t;
+        faulty = s .faulty;
+        done = s .done + 1;
+        sent = s .sent + messages-same (s .n) (s .t) (s .faulty) (s .rows) (s .lists) a b same d;
+        rows = places-same (newRow s a) (newRow s b) new-row-same d;
+        lists = places-same (newList s a) (newList s b) new-list-same d;
+      }
+
+  refusal-same : length a ≡ length b → iterateRefusal s a ≡ iterateRefusal s b
+  unfolding iterateRefusal
+  refusal-same e = rw e refl
+
+  -- one iteration
+  pub iterate-blind : length a ≡ length b → iterateReply s a ≡ iterateReply s b
+  unfolding iterateReply
+  iterate-blind e =
+      ap₂ (λ (refusal : ℕ) (next : Run). record { refusal = refusal; run = cond (eqb refusal 0) next s }) (refusal-same e) next-same
+
+-- a run keeps n and the faulty set
+kept : (s : Run) (table : List ℕ) → (iterateReply s table .run .n ≡ s .n) × (iterateReply s table .run .faulty ≡ s .faulty)
+unfolding iterateReply nextRun
+kept s table = go (eqb (iterateRefusal s table) 0)
+  where
+    go : (c : Bool) → (cond c (nextRun s table) s .n ≡ s .n) × (cond c (nextRun s table) s .faulty ≡ s .faulty)
+    go true = (refl, refl)
+    go false = (refl, refl)
+
+after-kept : (first : Next) (tables : ℕ → List ℕ) (m : ℕ) →
+    (after first tables m .run .n ≡ first .run .n) × (after first tables m .run .faulty ≡ first .run .faulty)
+unfolding after
+after-kept first tables zero = (refl, refl)
+after-kept first tables (suc m) =
+    let h = kept (after first tables m .run) (tables m) in
+    let g = after-kept first tables m in
+    (h .0 ∙ g .0, h .1 ∙ g .1)
+
+-- a whole run
+pub after-blind : (first : Next) (a b : ℕ → List ℕ) (m : ℕ) →
+    ((j : ℕ) → j < m → SameLies (first .run .n) (first .run .faulty) (a j) (b j) × (length (a j) ≡ length (b j))) →
+    after first a m ≡ after first b m
+unfolding after
+after-blind first a b zero h = refl
+after-blind first a b (suc m) h =
+    let g = after-kept first a m in
+    let l = h m (le-refl _) in
+    iterate-blind (after first a m .run) (a m) (b m)
+    (subst₂ (λ (n faulty : ℕ). SameLies n faulty (a m) (b m)) (sym (g .0)) (sym (g .1)) (l .0))
+    (l .1)
+    ∙ ap (λ (r : Next). iterateReply (r .run) (b m)) (after-blind first a b m (lower m h))

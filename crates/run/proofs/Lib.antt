@@ -1,0 +1,4 @@
+pub mod Accepted
+pub mod Blind
+pub mod Closed
+pub mod Kept
