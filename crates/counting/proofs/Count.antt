@@ -4,11 +4,12 @@ use mathlib.Core.Path.{_≡_, refl, sym, ap, ap₂, _∙_, subst}
 use mathlib.Core.Bool.{Bool, true, false, cond, not, _&&_, _||_}
 use mathlib.Core.Logic.{_⊎_, ⊎-elim}
 use mathlib.Core.Logic._⊎_.{inl, inr}
-use Prim.Native.Nat.{ℕ, zero, suc, _+_, _*_, _≤_, _<_}
-use native.Mathlib.Nat.{le-refl, not-suc-le-zero, add-zero, mul-zero, mul-add, mul-comm, mul-suc, add-le-add}
+use Prim.Native.Nat.{ℕ, zero, suc, _+_, _*_, _/_, _%_, _≤_, _<_}
+use native.Mathlib.Nat.{le-refl, not-suc-le-zero, add-zero, mul-zero, mul-add, mul-comm, mul-suc, add-le-add, add-suc, add-assoc, zero-mul, suc-mul}
 use native.Mathlib.Decide.{ℕ-discrete}
 use native.Mathlib.Numerals.{add-one}
 use native.Mathlib.Omega.{arith}
+use lib.Arith.{digits-div, digits-mod}
 use Rattle.counting.specs.Count.{sum, count, any, find}
 use Rattle.counting.proofs.Bools.{never, either, both, not-of-false, or-cases, or-false-left, or-false-right, or-none, and-left, and-right}
 
@@ -283,3 +284,25 @@ any-turn n p h e = rw add-one (or-none h e)
 pub find-turn : (n : ℕ) (p : ℕ → Bool) (f : ℕ → ℕ) {v r : ℕ} → v ≡ find n p f → r ≡ cond (p (f n)) (f n) v → r ≡ find (n + 1) p f
 unfolding find
 find-turn n p f h e = rw add-one (e ∙ ap (λ (w : ℕ). cond (p (f n)) (f n) w) h)
+
+-- a count over a longer bound goes on where the shorter one ended
+pub count-add : (a b : ℕ) (p : ℕ → Bool) → count (a + b) p ≡ count a p + count b (λ k. p (a + k))
+unfolding count
+count-add a zero p = rw add-zero (sym (add-zero (count a p)))
+count-add a (suc b) p = rw add-suc (ap (λ (m : ℕ). m + cond (p (a + b)) 1 0) (count-add a b p) ∙ add-assoc (count a p) _ _)
+
+-- a count over m rows of n places is the sum of the rows' counts
+pub count-rows : (m n : ℕ) (p : ℕ → ℕ → Bool) → count (m * n) (λ q. p (q / n) (q % n)) ≡ sum m (λ i. count n (p i))
+unfolding sum
+count-rows zero n p = rw zero-mul (unfold count in refl)
+count-rows (suc m) n p =
+    rw suc-mul
+    (count-add (m * n) n (λ q. p (q / n) (q % n))
+    ∙ ap₂ _+_ (count-rows m n p)
+    (count-ext n (λ k. p ((m * n + k) / n) ((m * n + k) % n)) (p m) (λ k l. ap₂ p (digits-div m l) (digits-mod m l))))
+
+-- a loop that has come to its bound has counted everything, and no more than there is
+pub counted-whole : {m n : ℕ} (p : ℕ → Bool) {c : ℕ} → m ≡ n → c ≡ count m p → (c ≡ count n p) × (c ≤ n)
+counted-whole {n = n} p {c} e h =
+    let is : c ≡ count n p = h ∙ ap (λ (k : ℕ). count k p) e in
+    (is, omega (arith, count-le n p))

@@ -1,10 +1,12 @@
 pub mod Blind
 pub mod Boxes
 pub mod Cells
+pub mod Columns
 pub mod Grades
 pub mod Listed
 pub mod Messages
 pub mod Near
 pub mod Places
 pub mod Properties
+pub mod Sent
 pub mod Sound

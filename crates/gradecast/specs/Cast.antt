@@ -41,11 +41,11 @@ module _ (n t faulty : ℕ) (lists table said : List ℕ) where
       (rows : List ℕ) → said ≡ cells n (ofSound faulty (heard1 n faulty rows lists table)) →
       r ≡ ofSound faulty (voted n t faulty rows lists table) i k
 
-  -- the same of the first p cells
-  abbrev pub VoteCells : ℕ → List ℕ → Type 0
-  VoteCells p out =
+  -- the same of all cells
+  abbrev pub AllVotes : List ℕ → Type 0
+  AllVotes r =
       (rows : List ℕ) → said ≡ cells n (ofSound faulty (heard1 n faulty rows lists table)) →
-      out ≡ front p (λ q. ofSound faulty (voted n t faulty rows lists table) (q / n) (q % n)) (replicate 169 0)
+      r ≡ cells n (ofSound faulty (voted n t faulty rows lists table))
 
   -- said is what the sound boxes send in step 3; then r is the grade of box i for leader k
   abbrev pub GradeCell : ℕ → ℕ → Graded → Type 0
@@ -54,17 +54,18 @@ module _ (n t faulty : ℕ) (lists table said : List ℕ) where
       (r .row ≡ ofSound faulty (gradeRow n t faulty rows lists table) i k) ×
       (r .confidence ≡ ofSound faulty (confidence n t faulty rows lists table) i k)
 
-  -- the same of the first p cells
-  abbrev pub GradeCells : ℕ → List ℕ → List ℕ → Type 0
-  GradeCells p outRows outConfidences =
+  -- the same of all cells
+  abbrev pub AllGrades : Cast → Type 0
+  AllGrades r =
       (rows : List ℕ) → said ≡ cells n (ofSound faulty (voted n t faulty rows lists table)) →
-      (outRows ≡ front p (λ q. ofSound faulty (gradeRow n t faulty rows lists table) (q / n) (q % n)) (replicate 169 0)) ×
-      (outConfidences ≡ front p (λ q. ofSound faulty (confidence n t faulty rows lists table) (q / n) (q % n)) (replicate 169 0))
+      (r .rows ≡ cells n (ofSound faulty (gradeRow n t faulty rows lists table))) ×
+      (r .confidences ≡ cells n (ofSound faulty (confidence n t faulty rows lists table)))
 
+-- the whole reply of steps 1 to 4
 unfoldable pub castReply : ℕ → ℕ → ℕ → List ℕ → List ℕ → List ℕ → Cast
 castReply n t faulty rows lists table =
     record {
-    sent = messages n t faulty rows lists table;
-    rows = cells n (ofSound faulty (gradeRow n t faulty rows lists table));
-    confidences = cells n (ofSound faulty (confidence n t faulty rows lists table))
+      sent = messages n t faulty rows lists table;
+      rows = cells n (ofSound faulty (gradeRow n t faulty rows lists table));
+      confidences = cells n (ofSound faulty (confidence n t faulty rows lists table));
     }

@@ -9,7 +9,16 @@ ghost use Rattle.counting.specs.Sets.{member};
 ghost use Rattle.sizes.specs.Sizes.{sound, tableRows};
 ghost use Rattle.gradecast.specs.Steps.{place1, placeFrom, sends, hears, heard1};
 ghost use Rattle.gradecast.specs.Cast.{
-    Ready, Among, ofSound, cells, heardFrom, VoteCell, VoteCells, GradeCell, GradeCells, castReply
+  Ready,
+  Among,
+  ofSound,
+  cells,
+  heardFrom,
+  VoteCell,
+  AllVotes,
+  GradeCell,
+  AllGrades,
+  castReply,
 };
 
 // What all boxes make of all leaders: the messages of steps 1 to 3, and the row and the confidence that box i gives leader k at
@@ -59,7 +68,15 @@ fn place_from(base: usize, n: usize, sender: usize, receiver: usize, leader: usi
 }
 
 // V[k] of box i, which a sound box sends in step 2; 0 for a faulty box.
-fn second_cell(n: usize, faulty: u16, rows: &[u64; 13], lists: &[u16; 13], table: &[u64], i: usize, k: usize) -> u64
+fn second_cell(
+    n: usize,
+    faulty: u16,
+    rows: &[u64; 13],
+    lists: &[u16; 13],
+    table: &[u64],
+    i: usize,
+    k: usize,
+) -> u64
     requires { ⌜ Ready n (now table) × Among n i k ⌝ }
     ensures { λ r. ⌜ r ≡ ofSound faulty (heard1 n faulty (now (rows .entry)) (now (lists .entry)) (now (table .entry))) i k ⌝ }
 {
@@ -71,7 +88,13 @@ fn second_cell(n: usize, faulty: u16, rows: &[u64; 13], lists: &[u16; 13], table
 }
 
 // Step 1: V of every sound box, which it sends in step 2.
-fn second_cells(n: usize, faulty: u16, rows: &[u64; 13], lists: &[u16; 13], table: &[u64]) -> [u64; 169]
+fn second_cells(
+    n: usize,
+    faulty: u16,
+    rows: &[u64; 13],
+    lists: &[u16; 13],
+    table: &[u64],
+) -> [u64; 169]
     requires { ⌜ Ready n (now table) ⌝ }
     ensures { λ r. ⌜ r ≡ cells n (ofSound faulty (heard1 n faulty (now (rows .entry)) (now (lists .entry)) (now (table .entry)))) ⌝ }
 {
@@ -86,7 +109,16 @@ fn second_cells(n: usize, faulty: u16, rows: &[u64; 13], lists: &[u16; 13], tabl
 }
 
 // What box i with this list hears from all boxes about leader k, where sound boxes send said and the table's rows begin at base.
-fn column(base: usize, n: usize, list: u16, faulty: u16, table: &[u64], said: &[u64; 169], i: usize, k: usize) -> [u64; 13]
+fn column(
+    base: usize,
+    n: usize,
+    list: u16,
+    faulty: u16,
+    table: &[u64],
+    said: &[u64; 169],
+    i: usize,
+    k: usize,
+) -> [u64; 13]
     requires { ⌜ Ready n (now table) × Among n i k × (base + n * n * n ≤ tableRows n) ⌝ }
     ensures { λ r. ⌜ r ≡ front n (heardFrom base n list faulty (now (table .entry)) (now (said .entry)) i k) (replicate 13 0) ⌝ }
 {
@@ -101,7 +133,16 @@ fn column(base: usize, n: usize, list: u16, faulty: u16, table: &[u64], said: &[
 }
 
 // Y[k] of box i, which a sound box sends in step 3, from the V of all boxes; 0 for a faulty box.
-fn third_cell(n: usize, t: u8, faulty: u16, lists: &[u16; 13], table: &[u64], second: &[u64; 169], i: usize, k: usize) -> u64
+fn third_cell(
+    n: usize,
+    t: u8,
+    faulty: u16,
+    lists: &[u16; 13],
+    table: &[u64],
+    second: &[u64; 169],
+    i: usize,
+    k: usize,
+) -> u64
     requires { ⌜ Ready n (now table) × Among n i k × (3 * t < n) ⌝ }
     ensures { λ r. ⌜ VoteCell n t faulty (now (lists .entry)) (now (table .entry)) (now (second .entry)) i k r ⌝ }
 {
@@ -113,9 +154,16 @@ fn third_cell(n: usize, t: u8, faulty: u16, lists: &[u16; 13], table: &[u64], se
 }
 
 // Steps 2 and 3: Y of every sound box, which it sends in step 3.
-fn third_cells(n: usize, t: u8, faulty: u16, lists: &[u16; 13], table: &[u64], second: &[u64; 169]) -> [u64; 169]
+fn third_cells(
+    n: usize,
+    t: u8,
+    faulty: u16,
+    lists: &[u16; 13],
+    table: &[u64],
+    second: &[u64; 169],
+) -> [u64; 169]
     requires { ⌜ Ready n (now table) × (3 * t < n) ⌝ }
-    ensures { λ r. ⌜ VoteCells n t faulty (now (lists .entry)) (now (table .entry)) (now (second .entry)) (n * n) r ⌝ }
+    ensures { λ r. ⌜ AllVotes n t faulty (now (lists .entry)) (now (table .entry)) (now (second .entry)) r ⌝ }
 {
     let mut out = [0u64; 169];
     let size = n * n;
@@ -128,21 +176,42 @@ fn third_cells(n: usize, t: u8, faulty: u16, lists: &[u16; 13], table: &[u64], s
 }
 
 // Step 4 for box i and leader k, from the Y of all boxes; 0 for a faulty box.
-fn grade_cell(n: usize, t: u8, faulty: u16, lists: &[u16; 13], table: &[u64], third: &[u64; 169], i: usize, k: usize) -> tally::Graded
+fn grade_cell(
+    n: usize,
+    t: u8,
+    faulty: u16,
+    lists: &[u16; 13],
+    table: &[u64],
+    third: &[u64; 169],
+    i: usize,
+    k: usize,
+) -> tally::Graded
     requires { ⌜ Ready n (now table) × Among n i k × (3 * t < n) ⌝ }
     ensures { λ r. ⌜ GradeCell n t faulty (now (lists .entry)) (now (table .entry)) (now (third .entry)) i k r ⌝ }
 {
     if is_member(faulty, i) {
-        return tally::Graded { refusal: 0, row: 0, confidence: 0 };
+        return tally::Graded {
+            refusal: 0,
+            row: 0,
+            confidence: 0,
+        };
     }
     let heard = column(n * n + n * n * n, n, lists[i], faulty, table, third, i, k);
     tally::grade(&heard[..n], t)
 }
 
 // Step 4: what every sound box makes of every leader.
-fn grade_cells(n: usize, t: u8, faulty: u16, lists: &[u16; 13], table: &[u64], third: &[u64; 169], sent: u64) -> Cast
+fn grade_cells(
+    n: usize,
+    t: u8,
+    faulty: u16,
+    lists: &[u16; 13],
+    table: &[u64],
+    third: &[u64; 169],
+    sent: u64,
+) -> Cast
     requires { ⌜ Ready n (now table) × (3 * t < n) ⌝ }
-    ensures { λ r. ⌜ GradeCells n t faulty (now (lists .entry)) (now (table .entry)) (now (third .entry)) (n * n) (r .rows) (r .confidences) × (r .sent ≡ sent) ⌝ }
+    ensures { λ r. ⌜ AllGrades n t faulty (now (lists .entry)) (now (table .entry)) (now (third .entry)) r × (r .sent ≡ sent) ⌝ }
 {
     let mut rows = [0u64; 169];
     let mut confidences = [0u8; 169];
@@ -154,7 +223,11 @@ fn grade_cells(n: usize, t: u8, faulty: u16, lists: &[u16; 13], table: &[u64], t
         confidences[p] = graded.confidence;
         p += 1;
     }
-    Cast { sent, rows, confidences }
+    Cast {
+        sent,
+        rows,
+        confidences,
+    }
 }
 
 // 1 for a row that is sent, 0 for nothing.
@@ -166,7 +239,7 @@ fn one_if_sent(row: u64) -> usize
 
 // How many of the cells hold a row.
 fn sent_in(cells: &[u64]) -> usize
-    ensures { λ r. ⌜ r ≡ count (length (now (cells .entry))) (λ k. not (eqb (getD (now (cells .entry)) k 0) 0)) ⌝ }
+    ensures { λ r. ⌜ (r ≡ count (length (now (cells .entry))) (λ k. not (eqb (getD (now (cells .entry)) k 0) 0))) × (r ≤ length (now (cells .entry))) ⌝ }
 {
     let mut sent: usize = 0;
     let mut p: usize = 0;
@@ -191,7 +264,7 @@ fn one_if_first(faulty: u16, j: usize, row: u64) -> usize
 // How many sound boxes send a row in step 1.
 fn sent_first(n: usize, faulty: u16, rows: &[u64; 13]) -> usize
     requires { ⌜ n ≤ 13 ⌝ }
-    ensures { λ r. ⌜ r ≡ count n (λ j. sound faulty j && not (eqb (getD (now (rows .entry)) j 0) 0)) ⌝ }
+    ensures { λ r. ⌜ (r ≡ count n (λ j. sound faulty j && not (eqb (getD (now (rows .entry)) j 0) 0))) × (r ≤ n) ⌝ }
 {
     let mut sent: usize = 0;
     let mut j: usize = 0;
@@ -203,7 +276,14 @@ fn sent_first(n: usize, faulty: u16, rows: &[u64; 13]) -> usize
 }
 
 // Steps 1 to 4 for every box.
-pub fn steps(n: usize, t: u8, faulty: u16, rows: &[u64; 13], lists: &[u16; 13], table: &[u64]) -> Cast
+pub fn steps(
+    n: usize,
+    t: u8,
+    faulty: u16,
+    rows: &[u64; 13],
+    lists: &[u16; 13],
+    table: &[u64],
+) -> Cast
     requires { ⌜ Ready n (now table) × (3 * t < n) ⌝ }
     ensures { λ r. ⌜ r ≡ castReply n t faulty (now (rows .entry)) (now (lists .entry)) (now (table .entry)) ⌝ }
 {

@@ -2,3 +2,4 @@ pub mod Carried
 pub mod Laws
 pub mod Leads
 pub mod Replies
+pub mod Taken

@@ -54,14 +54,15 @@ loop-less c = search needs
 
 loop-again : tie.Need-loop-again Inv-loop μ-loop
 unfolding heardFrom
-loop-again c = 
+loop-again c =
     let a = c .before .before .before .before .before .before .args in
-    let j = c .before .before .before .before .loop .j in
-    (search needs,
-    front-turn _ _ (replicate 13 0) _ (omega (arith, c .before .before .before .before .before .before .pre .0)) (c .before .before .before .before .loop .inv .1)
-    (c .hear .ensures
-    ∙ ap (λ (p : ℕ). hears (a .list) j (sends (a .faulty) (a .table .now) j p (getD (a .said .now) (j * a .n + a .k) 0)))
-    (c .before .before .place-from .ensures .0)))
+    let j = c .before .before .before .before .loop .j in (
+      search needs,
+      front-turn _ _ (replicate 13 0) _ (omega (arith, c .before .before .before .before .before .before .pre .0)) (c .before .before .before .before .loop .inv .1)
+          (c .hear .ensures
+          ∙ ap (λ (p : ℕ). hears (a .list) j (sends (a .faulty) (a .table .now) j p (getD (a .said .now) (j * a .n + a .k) 0)))
+          (c .before .before .place-from .ensures .0)),
+    )
 
 returns : tie.Need-returns Inv-loop μ-loop
 returns c = front-whole _ (replicate 13 0) (omega arith) (c .before .loop .inv .1)

@@ -1,63 +1,76 @@
+-- `gradecast::grade_cell` meets its contract: a faulty box's cell is 0; a sound one's column is that of step 3 in the document, and the grade
+-- over it is that of step 4. Assumes nothing.
+use mathlib.Core.Path.{_≡_, sym, ap, _∙_}
+use native.Mathlib.Omega.{arith}
+use lib.ListN.{take}
+use Rattle.tally.specs.Tally.{confidenceOf, gradedRow}
+use Rattle.tally.specs.declared.Graded.{Graded}
+use Rattle.tally.proofs.Taken.{grade-row, grade-confidence}
+use Rattle.gradecast.specs.Steps.{gradeRow, confidence}
+use Rattle.gradecast.proofs.Columns.{column-3, column-length, column-part, column-sized}
+use Rattle.gradecast.proofs.Places.{square-le, cube-le, third-fits}
+use Rattle.gradecast.proofs.Sound.{of-faulty, of-sound}
 use borrow.Author.Needs.{needs}
 use Rattle.gradecast.proofs.grade_cell.Statement.{statement}
 use Rattle.gradecast.proofs.grade_cell.Tie as tie
-use Rattle.gradecast.proofs.grade_cell.Reads as reads
-use Rattle.gradecast.proofs.grade_cell.Lts as lts
-use Rattle.gradecast.proofs.column.Reads as column-reads
-use Rattle.gradecast.proofs.is_member.Reads as is-member-reads
-use Rattle.tally.proofs.grade.Reads as grade-reads
 
--- src/lib.rt:135:8
 is-member-requires : tie.Need-is-member-requires
 is-member-requires c κs = search needs
 
--- src/lib.rt:136:9
 returns : tie.Need-returns
-returns c = search needs
+returns c =
+    λ rows e.
+    let faulty = sym (c .before .is-member .ensures) ∙ c .if1 .taken in
+    (sym (of-faulty _ _ _ _ faulty), sym (of-faulty _ _ _ _ faulty))
 
--- src/lib.rt:138:24
 mul-column : tie.Need-mul-column
-mul-column c = search needs
+mul-column c = omega (arith, square-le (c .before .before .before .pre .0 .high), cube-le (c .before .before .before .pre .0 .high))
 
--- src/lib.rt:138:32
 mul-column-2 : tie.Need-mul-column-2
-mul-column-2 c = search needs
+mul-column-2 c = omega (arith, square-le (c .before .before .before .pre .0 .high), cube-le (c .before .before .before .pre .0 .high))
 
--- src/lib.rt:138:32
 mul-column-3 : tie.Need-mul-column-3
-mul-column-3 c = search needs
+mul-column-3 c = omega (arith, square-le (c .before .before .before .pre .0 .high), cube-le (c .before .before .before .pre .0 .high))
 
--- src/lib.rt:138:24
 add-column : tie.Need-add-column
-add-column c = search needs
+add-column c = omega (arith, square-le (c .before .before .before .pre .0 .high), cube-le (c .before .before .before .pre .0 .high))
 
--- src/lib.rt:138:46
 mul-column-4 : tie.Need-mul-column-4
 mul-column-4 c = search needs
 
--- src/lib.rt:138:46
 element-copy-out-column : tie.Need-element-copy-out-column
 element-copy-out-column c = search needs
 
--- src/lib.rt:138:17
 column-requires : tie.Need-column-requires
-column-requires c κs = search needs
+column-requires c κs = (c .before .before .before .before .pre .0, c .before .before .before .before .pre .1, third-fits _)
 
--- src/lib.rt:139:18
 array-share-prefix-heard : tie.Need-array-share-prefix-heard
-array-share-prefix-heard c = search needs
+array-share-prefix-heard c = omega (arith, c .before .before .before .before .before .pre .0, column-length _ (c .before .before .before .before .before .pre .0 .high) (c .column .ensures))
 
--- src/lib.rt:139:18
 slice-aggregate-grade : tie.Need-slice-aggregate-grade
-slice-aggregate-grade c = search needs
+slice-aggregate-grade c = sym (column-part _ (c .before .before .before .before .before .before .pre .0 .high) (c .before .column .ensures))
 
--- src/lib.rt:139:5
 grade-requires : tie.Need-grade-requires
 grade-requires c κs = search needs
 
--- src/lib.rt:131:1
 returns-2 : tie.Need-returns-2
-returns-2 c = search needs
+unfolding gradeRow confidence
+returns-2 c =
+    λ rows e.
+    let p = c .before .before .before .before .before .before .before .pre in
+    let col = c .before .before .column .ensures in
+    let is-sound = sym (c .before .before .before .before .before .is-member .ensures) ∙ c .before .before .before .before .if1 .left in
+    let fits = column-sized _ (p .0 .high) col _ (p .0 .low) (p .2) in
+    let same = ap (take (c .before .before .before .before .before .before .before .args .n)) col ∙ column-3 _ _ _ _ _ _ _ (p .1 .is-leader) (c .before .before .before .before .before .before .before .args .t) rows e in (
+      ap (λ (r : Graded). r .row) (c .grade .ensures)
+          ∙ grade-row _ _ fits
+          ∙ ap (gradedRow _) same
+          ∙ sym (of-sound _ _ _ _ is-sound),
+      ap (λ (r : Graded). r .confidence) (c .grade .ensures)
+          ∙ grade-confidence _ _ fits
+          ∙ ap (confidenceOf _) same
+          ∙ sym (of-sound _ _ _ _ is-sound),
+    )
 
 pub grade-cell-spec : {M : Type 1} → statement M
 grade-cell-spec =

@@ -1,63 +1,81 @@
+-- `gradecast::grade_cells` meets its contract: after p turns the first p rows and confidences are filled, those at p for box p / n and leader
+-- p % n. What is left of n² falls. Assumes nothing.
+use mathlib.Core.Path.{_≡_, refl}
+use mathlib.Core.List.{List}
+use Prim.Native.Nat.{ℕ, _*_, _/_, _%_, _-_, _≤_}
+use native.Mathlib.Omega.{arith}
+use lib.ListN.{replicate}
+use Rattle.counting.proofs.Build.{front-none, front-turn, front-whole}
+use Rattle.counting.specs.Count.{front}
+use Rattle.gradecast.specs.Steps.{voted, gradeRow, confidence}
+use Rattle.gradecast.specs.Cast.{ofSound, cells}
+use Rattle.gradecast.proofs.Cells.{place-among}
+use Rattle.gradecast.proofs.Places.{square-le}
 use borrow.Author.Needs.{needs}
 use Rattle.gradecast.proofs.grade_cells.Statement.{statement}
 use Rattle.gradecast.proofs.grade_cells.Tie as tie
-use Rattle.gradecast.proofs.grade_cells.Reads as reads
-use Rattle.gradecast.proofs.grade_cells.Lts as lts
-use Rattle.gradecast.proofs.grade_cell.Reads as grade-cell-reads
 
 abbrev Inv-loop : tie.InvT-loop
-Inv-loop n t faulty lists table third sent rows₀ confidences₀ size p₀ rows confidences p = ?
+Inv-loop n t faulty lists table third sent rows₀ confidences₀ size p₀ rows confidences p =
+    (p ≤ n * n) ×
+    (size ≡ n * n) ×
+    ((held : List ℕ) → third ≡ cells n (ofSound faulty (voted n t faulty held lists table)) →
+    (rows ≡ front p (λ q. ofSound faulty (gradeRow n t faulty held lists table) (q / n) (q % n)) (replicate 169 0)) ×
+    (confidences ≡ front p (λ q. ofSound faulty (confidence n t faulty held lists table) (q / n) (q % n)) (replicate 169 0)))
 
 abbrev μ-loop : tie.MeasureT-loop
-μ-loop n t faulty lists table third sent rows₀ confidences₀ size p₀ rows confidences p = ?
+μ-loop n t faulty lists table third sent rows₀ confidences₀ size p₀ rows confidences p = n * n - p
 
--- src/lib.rt:149:16
 mul-size : tie.Need-mul-size Inv-loop μ-loop
-mul-size c = search needs
+mul-size c = omega (arith, square-le (c .before .pre .0 .high))
 
--- src/lib.rt:151:5
 loop-holds : tie.Need-loop-holds Inv-loop μ-loop
-loop-holds c = search needs
+loop-holds c = (search needs, refl, λ rows e. (front-none _ (replicate 169 0), front-none _ (replicate 169 0)))
 
--- src/lib.rt:152:68
 div-grade-cell : tie.Need-div-grade-cell Inv-loop μ-loop
-div-grade-cell c = search needs
+div-grade-cell c = omega (arith, c .before .before .before .pre .0 .low)
 
--- src/lib.rt:152:75
 rem-grade-cell : tie.Need-rem-grade-cell Inv-loop μ-loop
-rem-grade-cell c = search needs
+rem-grade-cell c = omega (arith, c .before .before .before .pre .0 .low)
 
--- src/lib.rt:152:13
 grade-cell-requires : tie.Need-grade-cell-requires Inv-loop μ-loop
-grade-cell-requires c κs = search needs
+grade-cell-requires c κs = (c .before .before .before .pre .0, place-among _ _ (c .before .before .before .pre .0 .low) (omega arith), c .before .before .before .pre .1)
 
--- src/lib.rt:153:9
 mul-rows : tie.Need-mul-rows Inv-loop μ-loop
-mul-rows c = search needs
+mul-rows c = omega (arith, square-le (c .before .before .before .before .pre .0 .high))
 
--- src/lib.rt:153:9
 array-write-rows : tie.Need-array-write-rows Inv-loop μ-loop
-array-write-rows c = search needs
+array-write-rows c = omega (arith, square-le (c .before .before .before .before .pre .0 .high))
 
--- src/lib.rt:154:9
 array-write-confidences : tie.Need-array-write-confidences Inv-loop μ-loop
-array-write-confidences c = search needs
+array-write-confidences c = omega (arith, square-le (c .before .before .before .before .pre .0 .high))
 
--- src/lib.rt:155:9
 add-p : tie.Need-add-p Inv-loop μ-loop
-add-p c = search needs
+add-p c = omega (arith, square-le (c .before .before .before .before .pre .0 .high))
 
--- src/lib.rt:151:5
 loop-less : tie.Need-loop-less Inv-loop μ-loop
 loop-less c = search needs
 
--- src/lib.rt:151:5
 loop-again : tie.Need-loop-again Inv-loop μ-loop
-loop-again c = search needs
+loop-again c = (
+  omega arith,
+  refl,
+  λ rows e.
+      let so-far = c .before .before .loop .inv .2 rows e in
+      let cell = c .grade-cell .ensures rows e in (
+        front-turn _ _ (replicate 169 0) _ (omega (arith, square-le (c .before .before .before .before .pre .0 .high))) (so-far .0) (cell .0),
+        front-turn _ _ (replicate 169 0) _ (omega (arith, square-le (c .before .before .before .before .pre .0 .high))) (so-far .1) (cell .1),
+      ),
+)
 
--- src/lib.rt:143:1
 returns : tie.Need-returns Inv-loop μ-loop
-returns c = search needs
+unfolding cells
+returns c = (
+  λ rows e.
+      let so-far = c .before .loop .inv .2 rows e in
+      (front-whole _ (replicate 169 0) (omega arith) (so-far .0), front-whole _ (replicate 169 0) (omega arith) (so-far .1)),
+  refl,
+)
 
 pub grade-cells-spec : {M : Type 1} → statement M
 grade-cells-spec =

@@ -37,7 +37,7 @@ hear-requires c κs = omega (arith, c .before .before .before .before .before .b
 
 returns-2 : tie.Need-returns-2
 unfolding heard1
-returns-2 c = 
+returns-2 c =
     let a = c .before .before .before .before .before .before .before .args in
     c .hear .ensures
     ∙ ap (λ (p : ℕ). hears (getD (a .lists .now) (a .i) 0) (a .k) (sends (a .faulty) (a .table .now) (a .k) p (getD (a .rows .now) (a .k) 0)))

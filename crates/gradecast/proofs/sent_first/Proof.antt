@@ -7,7 +7,7 @@ use native.Mathlib.Omega.{arith}
 use lib.Dec.{eqb}
 use lib.ListN.{getD}
 use Rattle.counting.specs.Count.{count}
-use Rattle.counting.proofs.Count.{count-turn, count-turn-le}
+use Rattle.counting.proofs.Count.{count-turn, count-turn-le, counted-whole}
 use Rattle.sizes.specs.Sizes.{sound}
 use borrow.Author.Needs.{needs}
 use Rattle.gradecast.proofs.sent_first.Statement.{statement}
@@ -45,7 +45,7 @@ loop-again : tie.Need-loop-again Inv-loop μ-loop
 loop-again c = (search needs, count-turn _ _ (c .before .before .before .loop .inv .1) (c .one-if-first .ensures))
 
 returns : tie.Need-returns Inv-loop μ-loop
-returns c = let whole : c .before .loop .j ≡ c .before .before .args .n = omega arith in rw (← whole) (c .before .loop .inv .1)
+returns c = counted-whole _ (omega arith) (c .before .loop .inv .1)
 
 pub sent-first-spec : {M : Type 1} → statement M
 sent-first-spec =

@@ -7,7 +7,7 @@ use native.Mathlib.Omega.{arith}
 use lib.Dec.{eqb}
 use lib.ListN.{length, getD}
 use Rattle.counting.specs.Count.{count}
-use Rattle.counting.proofs.Count.{count-turn, count-turn-le}
+use Rattle.counting.proofs.Count.{count-turn, count-turn-le, counted-whole}
 use borrow.Author.Needs.{needs}
 use Rattle.gradecast.proofs.sent_in.Statement.{statement}
 use Rattle.gradecast.proofs.sent_in.Tie as tie
@@ -44,7 +44,7 @@ loop-again : tie.Need-loop-again Inv-loop μ-loop
 loop-again c = (search needs, count-turn _ _ (c .before .before .before .loop .inv .1) (c .one-if-sent .ensures))
 
 returns : tie.Need-returns Inv-loop μ-loop
-returns c = let whole : c .before .loop .p ≡ length (c .before .before .before .args .cells .now) = omega arith in rw (← whole) (c .before .loop .inv .1)
+returns c = counted-whole _ (omega arith) (c .before .loop .inv .1)
 
 pub sent-in-spec : {M : Type 1} → statement M
 sent-in-spec =

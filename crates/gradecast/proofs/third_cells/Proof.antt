@@ -1,59 +1,68 @@
+-- `gradecast::third_cells` meets its contract: after p turns the first p cells are filled, cell p for box p / n and leader p % n. What is left
+-- of n² falls. Assumes nothing.
+use mathlib.Core.Path.{_≡_, refl}
+use mathlib.Core.List.{List}
+use Prim.Native.Nat.{ℕ, _*_, _/_, _%_, _-_, _≤_}
+use native.Mathlib.Omega.{arith}
+use lib.ListN.{replicate}
+use Rattle.counting.proofs.Build.{front-none, front-turn, front-whole}
+use Rattle.counting.specs.Count.{front}
+use Rattle.gradecast.specs.Steps.{heard1, voted}
+use Rattle.gradecast.specs.Cast.{ofSound, cells}
+use Rattle.gradecast.proofs.Cells.{place-among}
+use Rattle.gradecast.proofs.Places.{square-le}
 use borrow.Author.Needs.{needs}
 use Rattle.gradecast.proofs.third_cells.Statement.{statement}
 use Rattle.gradecast.proofs.third_cells.Tie as tie
-use Rattle.gradecast.proofs.third_cells.Reads as reads
-use Rattle.gradecast.proofs.third_cells.Lts as lts
-use Rattle.gradecast.proofs.third_cell.Reads as third-cell-reads
 
 abbrev Inv-loop : tie.InvT-loop
-Inv-loop n t faulty lists table second out₀ size p₀ out p = ?
+Inv-loop n t faulty lists table second out₀ size p₀ out p =
+    (p ≤ n * n) ×
+    (size ≡ n * n) ×
+    ((held : List ℕ) → second ≡ cells n (ofSound faulty (heard1 n faulty held lists table)) →
+    out ≡ front p (λ q. ofSound faulty (voted n t faulty held lists table) (q / n) (q % n)) (replicate 169 0))
 
 abbrev μ-loop : tie.MeasureT-loop
-μ-loop n t faulty lists table second out₀ size p₀ out p = ?
+μ-loop n t faulty lists table second out₀ size p₀ out p = n * n - p
 
--- src/lib.rt:121:16
 mul-size : tie.Need-mul-size Inv-loop μ-loop
-mul-size c = search needs
+mul-size c = omega (arith, square-le (c .before .pre .0 .high))
 
--- src/lib.rt:123:5
 loop-holds : tie.Need-loop-holds Inv-loop μ-loop
-loop-holds c = search needs
+loop-holds c = (search needs, refl, λ rows e. front-none _ (replicate 169 0))
 
--- src/lib.rt:124:65
 div-third-cell : tie.Need-div-third-cell Inv-loop μ-loop
-div-third-cell c = search needs
+div-third-cell c = omega (arith, c .before .before .before .pre .0 .low)
 
--- src/lib.rt:124:72
 rem-third-cell : tie.Need-rem-third-cell Inv-loop μ-loop
-rem-third-cell c = search needs
+rem-third-cell c = omega (arith, c .before .before .before .pre .0 .low)
 
--- src/lib.rt:124:18
 third-cell-requires : tie.Need-third-cell-requires Inv-loop μ-loop
-third-cell-requires c κs = search needs
+third-cell-requires c κs = (c .before .before .before .pre .0, place-among _ _ (c .before .before .before .pre .0 .low) (omega arith), c .before .before .before .pre .1)
 
--- src/lib.rt:124:9
 mul-out : tie.Need-mul-out Inv-loop μ-loop
-mul-out c = search needs
+mul-out c = omega (arith, square-le (c .before .before .before .before .pre .0 .high))
 
--- src/lib.rt:124:9
 array-write-out : tie.Need-array-write-out Inv-loop μ-loop
-array-write-out c = search needs
+array-write-out c = omega (arith, square-le (c .before .before .before .before .pre .0 .high))
 
--- src/lib.rt:125:9
 add-p : tie.Need-add-p Inv-loop μ-loop
-add-p c = search needs
+add-p c = omega (arith, square-le (c .before .before .before .before .pre .0 .high))
 
--- src/lib.rt:123:5
 loop-less : tie.Need-loop-less Inv-loop μ-loop
 loop-less c = search needs
 
--- src/lib.rt:123:5
 loop-again : tie.Need-loop-again Inv-loop μ-loop
-loop-again c = search needs
+loop-again c = (
+  omega arith,
+  refl,
+  λ rows e.
+      front-turn _ _ (replicate 169 0) _ (omega (arith, square-le (c .before .before .before .before .pre .0 .high))) (c .before .before .loop .inv .2 rows e) (c .third-cell .ensures rows e),
+)
 
--- src/lib.rt:116:1
 returns : tie.Need-returns Inv-loop μ-loop
-returns c = search needs
+unfolding cells
+returns c = λ rows e. front-whole _ (replicate 169 0) (omega arith) (c .before .loop .inv .2 rows e)
 
 pub third-cells-spec : {M : Type 1} → statement M
 third-cells-spec =

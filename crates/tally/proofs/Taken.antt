@@ -1,0 +1,79 @@
+-- What a caller gets that keeps to the sizes: the vote, the grade and the choice themselves. A vote is never refused by 7 then,
+-- since two rows that stand n − t times each are one row where 3t < n.
+-- Assumes nothing.
+use mathlib.Core.Path.{_≡_, refl, sym, ap, _∙_}
+use mathlib.Core.Bool.{Bool, true, false, not, _&&_}
+use mathlib.Core.List.{List, [], _∷_}
+use mathlib.Core.Logic.{⊎-elim}
+use Prim.Native.Nat.{ℕ, _*_, _≤_, _<_}
+use lib.Dec.{eqb, ltb}
+use lib.ListN.{length, getD}
+use borrow.Author.Tests.{eq-eqb, le-ltb}
+use Rattle.counting.specs.Count.{any}
+use Rattle.counting.specs.Refuse.{firstOf}
+use Rattle.counting.proofs.Bools.{either, and-left, and-right, not-of-true, never, cond-false}
+use Rattle.counting.proofs.Count.{Some, any-some, none-any}
+use Rattle.sizes.specs.Sizes.{outside, tooMany}
+use Rattle.sizes.proofs.Laws.{inside, tolerated}
+use Rattle.tally.specs.declared.Voted.{Voted}
+use Rattle.tally.specs.declared.Graded.{Graded}
+use Rattle.tally.specs.declared.Chosen.{Chosen}
+use Rattle.tally.specs.Tally.{carried, voteOf, twoRows, rival, confidenceOf, gradedRow, chosenRow, above2}
+use Rattle.tally.specs.Reply.{gradeRefusal, choiceRefusal, voteReply, gradeReply, choiceReply}
+use Rattle.tally.proofs.Carried.{two-rows}
+use Rattle.tally.proofs.Laws.{carried-is, vote-is}
+use Rattle.tally.proofs.Replies.{Sized, vote-passes, vote-taken, grade-taken, choice-taken}
+
+-- no two different rows stand n − t times each
+pub never-two : (t : ℕ) (xs : List ℕ) → 3 * t < length xs → twoRows t xs ≡ false
+unfolding rival
+never-two t xs h = two-rows t xs ∙ ⊎-elim (λ e. absurd (rivals (any-some (length xs) is e))) (λ e. e) (either (any (length xs) is))
+  where
+    is : ℕ → Bool
+    is k = carried t xs (getD xs k 0) && not (eqb (getD xs k 0) (voteOf t xs))
+
+    rivals : Some (length xs) is → ⊥
+    rivals s =
+        let v = getD xs (s .at) 0 in
+        never (and-right (carried t xs v) (not (eqb v (voteOf t xs))) (s .passes))
+        (not-of-true
+        (eq-eqb v (voteOf t xs)
+        (sym (vote-is t xs h v (carried-is t xs v (and-left (carried t xs v) (not (eqb v (voteOf t xs))) (s .passes)))))))
+
+pub sized-passes : (n t : ℕ) → Sized n t → gradeRefusal n t ≡ 0
+unfolding gradeRefusal firstOf
+sized-passes n t s = rw (inside n (s .low) (s .high), tolerated n t (s .few)) refl
+
+module _ (xs : List ℕ) (t : ℕ) (s : Sized (length xs) t) where
+  pub vote-row : voteReply xs t .row ≡ voteOf t xs
+  vote-row =
+      ap (λ (r : Voted). r .row)
+      (sym
+      (vote-taken xs t (voteOf t xs)
+      (vote-passes xs t (sized-passes (length xs) t s) ∙ cond-false 7 0 (never-two t xs (s .few)))
+      refl))
+
+  graded : _≡_ {A = Graded} (record { refusal = 0; row = gradedRow t xs; confidence = confidenceOf t xs }) (gradeReply xs t)
+  graded = grade-taken xs t (gradedRow t xs) (confidenceOf t xs) (sized-passes (length xs) t s) refl refl
+
+  pub grade-row : gradeReply xs t .row ≡ gradedRow t xs
+  grade-row = ap (λ (r : Graded). r .row) (sym graded)
+
+  pub grade-confidence : gradeReply xs t .confidence ≡ confidenceOf t xs
+  grade-confidence = ap (λ (r : Graded). r .confidence) (sym graded)
+
+-- a choice over 1 to 13 rows and as many confidences, none above 2
+pub choice-row : (rows confidences : List ℕ) → 1 ≤ length rows → length rows ≤ 13 → length rows ≡ length confidences →
+    ((k : ℕ) → k < length confidences → getD confidences k 0 ≤ 2) → choiceReply rows confidences .row ≡ chosenRow rows confidences
+unfolding choiceRefusal firstOf above2
+choice-row rows confidences low high same small =
+    ap (λ (r : Chosen). r .row)
+    (sym
+    (choice-taken rows confidences (chosenRow rows confidences) _
+    (rw (
+      inside (length rows) low high,
+      eq-eqb (length rows) (length confidences) same,
+      none-any (length confidences) (λ k. ltb 2 (getD confidences k 0)) (λ k l. le-ltb 2 (getD confidences k 0) (small k l)),
+    )
+    refl)
+    refl refl))
