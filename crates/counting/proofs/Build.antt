@@ -1,13 +1,13 @@
 -- Laws of a built list, and the turn of a loop that fills one.
 -- Assumes nothing.
 use mathlib.Core.Path.{_≡_, refl, sym, ap, ap₂, _∙_, subst}
-use mathlib.Core.List.{List, [], _∷_, _++_}
+use mathlib.Core.List.{List, [], _∷_, _++_, append-nil}
 use mathlib.Core.Logic.{⊎-elim}
 use Prim.Native.Nat.{ℕ, zero, suc, _+_, _≤_, _<_}
 use native.Mathlib.Nat.{le-refl, not-suc-le-zero}
 use native.Mathlib.Numerals.{add-one}
 use native.Mathlib.Omega.{arith}
-use lib.ListN.{length, getD, take, drop, set, length-append, length-drop, List·getD-append}
+use lib.ListN.{length, getD, take, drop, set, length-append, length-drop, drop-of-length-le, List·getD-append}
 use lib.Seq.{take-suc-set, getD-at, take-all, ext-getD, getD-take, drop-cons, set-at, append-snoc, take-at}
 use Rattle.counting.specs.Count.{build, front}
 use Rattle.counting.proofs.Count.{lower, at-or-below}
@@ -96,3 +96,9 @@ front-ext n f g xs h = ap (λ (ys : List ℕ). ys ++ drop n xs) (build-ext n f g
 -- a loop that has come to its bound has filled the whole front
 pub front-whole : {m n : ℕ} (f : ℕ → ℕ) (xs : List ℕ) {ys : List ℕ} → m ≡ n → ys ≡ front m f xs → ys ≡ front n f xs
 front-whole f xs e h = h ∙ ap (λ (k : ℕ). front k f xs) e
+
+-- a front as long as the list is all of it
+pub front-all : (f : ℕ → ℕ) (xs : List ℕ) {ys : List ℕ} (n : ℕ) → length xs ≡ n → ys ≡ front n f xs → ys ≡ build n f
+unfolding front
+front-all f xs n e h =
+    h ∙ ap (λ (zs : List ℕ). build n f ++ zs) (drop-of-length-le xs {i = n} (omega arith)) ∙ append-nil (build n f)

@@ -13,7 +13,7 @@ use borrow.Author.Tests.{ne-eqb, eq-eqb}
 use Rattle.counting.specs.Count.{sum}
 use Rattle.counting.specs.Sets.{member, setOf}
 use Rattle.counting.proofs.Bools.{never}
-use Rattle.counting.proofs.Count.{lower, at-or-below, sum-ext}
+use Rattle.counting.proofs.Count.{lower, at-or-below, sum-ext, sum-turn}
 
 double : (n : ℕ) → 2 ^ suc n ≡ 2 ^ n + 2 ^ n
 double n = ap (λ (m : ℕ). 2 ^ m) (sym (add-one n)) ∙ pow-add 2 n 1 ∙ omega arith
@@ -92,3 +92,22 @@ member-above n s k h l =
 -- the empty set has no member
 pub member-empty : (k : ℕ) → member 0 k ≡ false
 member-empty k = member-above 0 0 k (pow-pos 0) (omega arith)
+
+-- a loop's turn adds the bit of one more box
+pub setOf-turn : (n : ℕ) (p : ℕ → Bool) {s r : ℕ} → s ≡ setOf n p → r ≡ cond (p n) (2 ^ n) 0 → s + r ≡ setOf (n + 1) p
+unfolding setOf
+setOf-turn n p h e = sum-turn n (λ k. cond (p k) (2 ^ k) 0) h e
+
+pub setOf-turn-lt : (n : ℕ) (p : ℕ → Bool) {s r : ℕ} → s ≡ setOf n p → r ≡ cond (p n) (2 ^ n) 0 → s + r < 2 ^ (n + 1)
+setOf-turn-lt n p {s} {r} h e = subst (λ (m : ℕ). m < 2 ^ (n + 1)) (sym (setOf-turn n p h e)) (setOf-lt (n + 1) p)
+
+-- the bit of the next box is twice this one's, and small sets fit 16 bits
+pub bit-turn : (n : ℕ) {b : ℕ} → b ≡ 2 ^ n → b * 2 ≡ 2 ^ (n + 1)
+bit-turn n h = ap (λ (m : ℕ). m * 2) h ∙ sym (pow-add 2 n 1)
+
+pub bits-le : (n : ℕ) → n ≤ 13 → 2 ^ n ≤ 8192
+bits-le n h = pow-mono h
+
+-- a loop that has come to its bound has built the whole set
+pub setOf-whole : {m n : ℕ} (p : ℕ → Bool) {s : ℕ} → m ≡ n → s ≡ setOf m p → s ≡ setOf n p
+setOf-whole p e h = h ∙ ap (λ (k : ℕ). setOf k p) e

@@ -52,10 +52,10 @@ module _ (s : Run) (a b : List ℕ) (same : SameLies (s .n) (s .faulty) a b) whe
       ap (λ (cs : List ℕ). setOf (s .n) (λ k. member (getD (s .lists) i 0) k || ltb (getD cs k 0) 2)) (confidences-same i l)
 
   -- the places of the next state agree where those of the sound boxes do
-  places-same : (f g : ℕ → ℕ) → ((i : ℕ) → i < s .n → f i ≡ g i) → build 13 (entry s a f) ≡ build 13 (entry s b g)
+  places-same : (f g : ℕ → ℕ) → ((i : ℕ) → i < s .n → f i ≡ g i) → build 13 (entry (s .n) (s .faulty) f) ≡ build 13 (entry (s .n) (s .faulty) g)
   unfolding entry
   places-same f g h =
-      build-ext 13 (entry s a f) (entry s b g) (λ i l. go i (ltb i (s .n) && sound (s .faulty) i) refl)
+      build-ext 13 (entry (s .n) (s .faulty) f) (entry (s .n) (s .faulty) g) (λ i l. go i (ltb i (s .n) && sound (s .faulty) i) refl)
     where
       go : (i : ℕ) (c : Bool) → (ltb i (s .n) && sound (s .faulty) i) ≡ c → cond c (f i) 0 ≡ cond c (g i) 0
       go i true e = h i (ltb-true i (s .n) (and-left (ltb i (s .n)) (sound (s .faulty) i) e))

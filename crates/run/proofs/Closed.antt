@@ -24,7 +24,7 @@ use Rattle.gradecast.proofs.Boxes.{is-box, box-is}
 use Rattle.gradecast.proofs.Messages.{messages-bound}
 use Rattle.run.specs.declared.Run.{Run}
 use Rattle.run.specs.Iteration.{confidences, newList, nextRun}
-use Rattle.run.specs.State.{startRefusal, startRun, startReply, zeros, badPlace, tooManySent, iterateRefusal, iterateReply}
+use Rattle.run.specs.State.{badEntry, startRefusal, startRun, startReply, zeros, badPlace, tooManySent, iterateRefusal, iterateReply}
 use Rattle.run.specs.Legal.{Legal}
 use Rattle.run.proofs.Kept.{start-row, start-list, start-unused, next-row, next-list, next-unused, new-row-not-zero}
 use Rattle.run.proofs.Accepted.{StartAccepted, is-accepted, is-start-accepted, rows-not-zero, not-zero-rows}
@@ -33,7 +33,7 @@ use Rattle.run.proofs.Accepted.{StartAccepted, is-accepted, is-start-ac
 good-place : (s : Run) (k : ℕ) → (SoundBox (s .n) (s .faulty) k → getD (s .lists) k 0 < 2 ^ s .n) →
     ((SoundBox (s .n) (s .faulty) k → ⊥) → (getD (s .rows) k 0 ≡ 0) × (getD (s .lists) k 0 ≡ 0)) →
     badPlace s k ≡ false
-unfolding badPlace
+unfolding badPlace badEntry
 good-place s k inner outer = go (ltb k (s .n) && sound (s .faulty) k) refl
   where
     go : (b : Bool) → (ltb k (s .n) && sound (s .faulty) k) ≡ b →

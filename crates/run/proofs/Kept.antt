@@ -28,14 +28,14 @@ use Rattle.run.specs.Iteration.{gradedRows, confidences, newRow, newList
 
 module _ (n t faulty : ℕ) (rows : List ℕ) where
   pub start-row : (k : ℕ) → n ≤ 13 → SoundBox n faulty k → getD (startRun n t faulty rows .rows) k 0 ≡ getD rows k 0
-  unfolding startRun startRow
+  unfolding startRun startRow entry
   start-row k h b =
       let l = b .below in
       getD-build 13 (startRow n faulty rows) k 0 (omega arith)
       ∙ cond-true (getD rows k 0) 0 (is-box b)
 
   pub start-unused : (k : ℕ) → k < 13 → (SoundBox n faulty k → ⊥) → getD (startRun n t faulty rows .rows) k 0 ≡ 0
-  unfolding startRun startRow
+  unfolding startRun startRow entry
   start-unused k l h = getD-build 13 (startRow n faulty rows) k 0 l ∙ cond-false (getD rows k 0) 0 (no-box n faulty k h)
 
   pub start-list : (k : ℕ) → k < 13 → getD (startRun n t faulty rows .lists) k 0 ≡ 0
@@ -43,11 +43,11 @@ module _ (n t faulty : ℕ) (rows : List ℕ) where
   start-list k l = getD-replicate 13 k 0 0 l
 
 module _ (s : Run) (table : List ℕ) where
-  placed : (f : ℕ → ℕ) (k : ℕ) → s .n ≤ 13 → SoundBox (s .n) (s .faulty) k → getD (build 13 (entry s table f)) k 0 ≡ f k
+  placed : (f : ℕ → ℕ) (k : ℕ) → s .n ≤ 13 → SoundBox (s .n) (s .faulty) k → getD (build 13 (entry (s .n) (s .faulty) f)) k 0 ≡ f k
   unfolding entry
   placed f k h b =
       let l = b .below in
-      getD-build 13 (entry s table f) k 0 (omega arith)
+      getD-build 13 (entry (s .n) (s .faulty) f) k 0 (omega arith)
       ∙ cond-true (f k) 0 (is-box b)
 
   pub next-row : (k : ℕ) → s .n ≤ 13 → SoundBox (s .n) (s .faulty) k → getD (nextRun s table .rows) k 0 ≡ newRow s table k
@@ -64,8 +64,8 @@ module _ (s : Run) (table : List ℕ) where
   unfolding nextRun entry
   next-unused k l h = (none (newRow s table), none (newList s table))
     where
-      none : (f : ℕ → ℕ) → getD (build 13 (entry s table f)) k 0 ≡ 0
-      none f = getD-build 13 (entry s table f) k 0 l ∙ cond-false (f k) 0 (no-box (s .n) (s .faulty) k h)
+      none : (f : ℕ → ℕ) → getD (build 13 (entry (s .n) (s .faulty) f)) k 0 ≡ 0
+      none f = getD-build 13 (entry (s .n) (s .faulty) f) k 0 l ∙ cond-false (f k) 0 (no-box (s .n) (s .faulty) k h)
 
   -- the row that was chosen is the one found most often among the graded rows
   pub chosen-is : (i : ℕ) → chosenRow (gradedRows s table i) (confidences s table i) ≡ most (gradedRows s table i)

@@ -1,8 +1,8 @@
 -- Step 5 of one iteration over the state and the table: the new row and the new list of every box.
 use Prim.Native.Nat.{ℕ, _+_}
-use mathlib.Core.Bool.{Bool, cond, not, _&&_, _||_}
+use mathlib.Core.Bool.{cond, _&&_, _||_}
 use mathlib.Core.List.{List}
-use lib.Dec.{eqb, leb, ltb}
+use lib.Dec.{eqb, ltb}
 use lib.ListN.{getD}
 use Rattle.counting.specs.Count.{build}
 use Rattle.counting.specs.Sets.{member, setOf}
@@ -10,6 +10,10 @@ use Rattle.tally.specs.Tally.{chosenRow}
 use Rattle.sizes.specs.Sizes.{sound}
 use Rattle.gradecast.specs.Steps.{confidence, gradeRow, messages}
 use Rattle.run.specs.declared.Run.{Run}
+
+-- what a sound box i has, and 0 in a faulty box's place and above n
+unfoldable pub entry : ℕ → ℕ → (ℕ → ℕ) → ℕ → ℕ
+entry n faulty f i = cond (ltb i n && sound faulty i) (f i) 0
 
 module _ (s : Run) (table : List ℕ) where
   -- step 4 by box i: the rows and the confidences of leaders 1 to n
@@ -29,10 +33,6 @@ module _ (s : Run) (table : List ℕ) where
   unfoldable pub newList : ℕ → ℕ
   newList i = setOf (s .n) (λ k. member (getD (s .lists) i 0) k || ltb (getD (confidences i) k 0) 2)
 
-  -- a sound box's entry; a faulty box's entry and the places above n are 0
-  unfoldable pub entry : (ℕ → ℕ) → ℕ → ℕ
-  entry f i = cond (ltb i (s .n) && sound (s .faulty) i) (f i) 0
-
   -- the state after one iteration
   unfoldable pub nextRun : Run
   nextRun =
@@ -42,6 +42,6 @@ module _ (s : Run) (table : List ℕ) where
         faulty = s .faulty;
         done = s .done + 1;
         sent = s .sent + messages (s .n) (s .t) (s .faulty) (s .rows) (s .lists) table;
-        rows = build 13 (entry newRow);
-        lists = build 13 (entry newList);
+        rows = build 13 (entry (s .n) (s .faulty) newRow);
+        lists = build 13 (entry (s .n) (s .faulty) newList);
       }

@@ -1,3 +1,4 @@
+pub mod Grades
 pub mod Iteration
-pub mod State
 pub mod Legal
+pub mod State

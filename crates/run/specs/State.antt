@@ -13,14 +13,19 @@ pub use Rattle.sizes.specs.Sizes.{soundZero}
 use Rattle.sizes.specs.Sizes.{sound}
 use Rattle.run.specs.declared.Run.{Run}
 use Rattle.run.specs.declared.Next.{Next}
-use Rattle.run.specs.Iteration.{nextRun}
+use Rattle.run.specs.Iteration.{entry, nextRun}
 
 -- the places of a start that hold a row: sound boxes below n
 unfoldable pub startRow : ℕ → ℕ → List ℕ → ℕ → ℕ
-startRow n faulty rows k = cond (ltb k n && sound faulty k) (getD rows k 0) 0
+startRow n faulty rows = entry n faulty (λ k. getD rows k 0)
 
 unfoldable pub zeros : Run
 zeros = record { n = 0; t = 0; faulty = 0; done = 0; sent = 0; rows = replicate 13 0; lists = replicate 13 0 }
+
+-- refusals 4, 5 and 6, of n, t and the faulty set
+unfoldable pub settingRefusal : ℕ → ℕ → ℕ → ℕ
+settingRefusal n t faulty =
+    firstOf (refuse 4 (outside n) ∷ refuse 5 (tooMany n t) ∷ refuse 6 (stray n faulty) ∷ [])
 
 unfoldable pub startRefusal : ℕ → ℕ → ℕ → List ℕ → ℕ
 startRefusal n t faulty rows =
@@ -54,15 +59,20 @@ startReply n t faulty rows =
     }
 
 -- refusal 14: a non-zero row or list in a faulty or unused place, or a list bit at place n or above
+unfoldable pub badEntry : ℕ → ℕ → ℕ → ℕ → ℕ → Bool
+badEntry n faulty k row list = cond (ltb k n && sound faulty k) (stray n list) (not (eqb row 0) || not (eqb list 0))
+
 unfoldable pub badPlace : Run → ℕ → Bool
-badPlace s k =
-    cond (ltb k (s .n) && sound (s .faulty) k)
-    (stray (s .n) (getD (s .lists) k 0))
-    (not (eqb (getD (s .rows) k 0) 0) || not (eqb (getD (s .lists) k 0) 0))
+badPlace s k = badEntry (s .n) (s .faulty) k (getD (s .rows) k 0) (getD (s .lists) k 0)
 
 -- refusal 14: more messages than iterations done times the table's rows
 unfoldable pub tooManySent : Run → Bool
 tooManySent s = ltb (s .done * tableRows (s .n)) (s .sent)
+
+-- refusals 12 and 14, of a state that has passed the tests before them
+unfoldable pub lateRefusal : Run → ℕ
+lateRefusal s =
+    firstOf (refuse 12 (ltb (s .t) (s .done)) ∷ refuse 14 (any 13 (badPlace s) || tooManySent s) ∷ [])
 
 unfoldable pub iterateRefusal : Run → List ℕ → ℕ
 iterateRefusal s table =

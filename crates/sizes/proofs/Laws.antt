@@ -1,17 +1,20 @@
 -- What the tests for refusals 4, 5 and 6 say, and the rule of a table by n: one computed test, and the law that turns it into
 -- the formula at every n.
 -- Assumes nothing.
-use mathlib.Core.Path.{_≡_, refl, sym, ap, _∙_}
+use mathlib.Core.Path.{_≡_, sym, ap, _∙_, subst}
 use mathlib.Core.Bool.{Bool, true, false, not, cond, _||_}
 use mathlib.Core.List.{List}
 use Prim.Native.Nat.{ℕ, _+_, _-_, _*_, _/_, _^_, _≤_, _<_}
+use mathlib.Core.Logic.{⊎-elim}
+use native.Mathlib.Nat.{div-eq-of-lt, div-lt-iff-lt-mul, not-le-of-lt, one-mul}
 use native.Mathlib.Omega.{arith}
+use lib.Pow.{pow-pos}
 use lib.Dec.{eqb, leb, ltb}
 use lib.ListN.{getD}
-use borrow.Author.Tests.{lt-ltb, le-ltb, le-leb, lt-leb, ltb-false, leb-false, eqb-true}
+use borrow.Author.Tests.{lt-ltb, le-ltb, le-leb, lt-leb, ltb-false, leb-true, leb-false, eqb-true, eq-eqb, ne-eqb}
 use Rattle.counting.specs.Count.{any}
 use Rattle.counting.proofs.Count.{any-none}
-use Rattle.counting.proofs.Bools.{cond-true, cond-false, or-none, or-true-left, or-true-right, or-false-left, or-false-right, not-false}
+use Rattle.counting.proofs.Bools.{either, not-of-true, not-of-false, cond-true, cond-false, or-none, or-true-left, or-true-right, or-false-left, or-false-right, not-false}
 use Rattle.sizes.specs.Sizes.{outside, tooMany, stray, largestT, tableRows, byN}
 
 -- refusal 4, both ways
@@ -92,3 +95,18 @@ largest-tolerated n h = omega arith
 pub none-larger : (n t : ℕ) → 3 * t < n → t ≤ largestT n
 unfolding largestT
 none-larger n t h = omega arith
+
+-- a set shifted by n is not 0 exactly where it has a bit at place n or above
+pub shifted : (n set : ℕ) → not (eqb (set / 2 ^ n) 0) ≡ stray n set
+unfolding stray
+shifted n set = ⊎-elim (λ t. high (leb-true (2 ^ n) set t) ∙ sym t) (λ f. low (leb-false (2 ^ n) set f) ∙ sym f) (either (leb (2 ^ n) set))
+  where
+    high : 2 ^ n ≤ set → not (eqb (set / 2 ^ n) 0) ≡ true
+    high h =
+        not-of-false
+        (ne-eqb (set / 2 ^ n) 0
+        (λ e.
+        absurd (not-le-of-lt (subst (λ (m : ℕ). set < m) (one-mul (2 ^ n)) (div-lt-iff-lt-mul (pow-pos n) .0 (omega (arith, e)))) h)))
+
+    low : set < 2 ^ n → not (eqb (set / 2 ^ n) 0) ≡ false
+    low h = not-of-true (eq-eqb (set / 2 ^ n) 0 (div-eq-of-lt h))

@@ -1,0 +1,54 @@
+-- `run::Run::iterate` meets its contract: it refuses with the state as it came; otherwise steps 1 to 4 are gradecast's, step 5 fills the rows
+-- and the lists, and the counter grows by the messages. Assumes nothing.
+use mathlib.Core.Path.{sym, _∙_}
+use native.Mathlib.Omega.{arith}
+use Rattle.run.proofs.Accepted.{is-accepted}
+use Rattle.run.proofs.Refusals.{iterate-refused, iterate-taken}
+use Rattle.run.proofs.Whole.{high, few, ready, done-small, sent-small, grades, cast-sized, next-is}
+use borrow.Author.Needs.{needs}
+use Rattle.run.proofs.Run.iterate.Statement.{statement}
+use Rattle.run.proofs.Run.iterate.Tie as tie
+
+iterate-refusal-requires : tie.Need-iterate-refusal-requires
+iterate-refusal-requires c κs = search needs
+
+returns : tie.Need-returns
+returns c = iterate-refused _ _ _ (c .before .iterate-refusal .ensures) (c .if1 .taken)
+
+cast-steps : tie.Need-cast-steps
+cast-steps c = search needs
+
+steps-requires : tie.Need-steps-requires
+steps-requires c κs = (ready (c .before .before .before .before .before .before .before .before .args .self) (c .before .before .before .before .before .before .before .before .args .table .now) (is-accepted (c .before .before .before .before .before .before .before .before .args .self) (c .before .before .before .before .before .before .before .before .args .table .now) (sym (c .before .before .before .before .before .before .iterate-refusal .ensures) ∙ c .before .before .before .before .before .if1 .left)), few (c .before .before .before .before .before .before .before .before .args .self) (c .before .before .before .before .before .before .before .before .args .table .now) (is-accepted (c .before .before .before .before .before .before .before .before .args .self) (c .before .before .before .before .before .before .before .before .args .table .now) (sym (c .before .before .before .before .before .before .iterate-refusal .ensures) ∙ c .before .before .before .before .before .if1 .left)))
+
+next-rows-requires : tie.Need-next-rows-requires
+next-rows-requires c κs = cast-sized (c .before .before .before .before .before .before .before .before .before .before .before .before .before .before .args .self) (c .before .before .before .before .before .before .before .before .before .before .before .before .before .before .args .table .now) (is-accepted (c .before .before .before .before .before .before .before .before .before .before .before .before .before .before .args .self) (c .before .before .before .before .before .before .before .before .before .before .before .before .before .before .args .table .now) (sym (c .before .before .before .before .before .before .before .before .before .before .before .before .iterate-refusal .ensures) ∙ c .before .before .before .before .before .before .before .before .before .before .before .if1 .left)) (c .before .before .before .before .before .steps .result) (c .before .before .before .before .before .steps .ensures)
+
+next-lists-requires : tie.Need-next-lists-requires
+next-lists-requires c κs = (cast-sized (c .before .before .before .before .before .before .before .before .before .before .before .before .before .before .before .before .before .before .args .self) (c .before .before .before .before .before .before .before .before .before .before .before .before .before .before .before .before .before .before .args .table .now) (is-accepted (c .before .before .before .before .before .before .before .before .before .before .before .before .before .before .before .before .before .before .args .self) (c .before .before .before .before .before .before .before .before .before .before .before .before .before .before .before .before .before .before .args .table .now) (sym (c .before .before .before .before .before .before .before .before .before .before .before .before .before .before .before .before .iterate-refusal .ensures) ∙ c .before .before .before .before .before .before .before .before .before .before .before .before .before .before .before .if1 .left)) (c .before .before .before .before .before .before .before .before .before .steps .result) (c .before .before .before .before .before .before .before .before .before .steps .ensures) .all-confidences, high (c .before .before .before .before .before .before .before .before .before .before .before .before .before .before .before .before .before .before .args .self) (c .before .before .before .before .before .before .before .before .before .before .before .before .before .before .before .before .before .before .args .table .now) (is-accepted (c .before .before .before .before .before .before .before .before .before .before .before .before .before .before .before .before .before .before .args .self) (c .before .before .before .before .before .before .before .before .before .before .before .before .before .before .before .before .before .before .args .table .now) (sym (c .before .before .before .before .before .before .before .before .before .before .before .before .before .before .before .before .iterate-refusal .ensures) ∙ c .before .before .before .before .before .before .before .before .before .before .before .before .before .before .before .if1 .left)))
+
+add-t21 : tie.Need-add-t21
+add-t21 c = omega (arith, done-small (c .before .before .before .before .before .before .before .before .before .before .before .before .before .before .before .before .before .before .before .before .args .self) (c .before .before .before .before .before .before .before .before .before .before .before .before .before .before .before .before .before .before .before .before .args .table .now) (is-accepted (c .before .before .before .before .before .before .before .before .before .before .before .before .before .before .before .before .before .before .before .before .args .self) (c .before .before .before .before .before .before .before .before .before .before .before .before .before .before .before .before .before .before .before .before .args .table .now) (sym (c .before .before .before .before .before .before .before .before .before .before .before .before .before .before .before .before .before .before .iterate-refusal .ensures) ∙ c .before .before .before .before .before .before .before .before .before .before .before .before .before .before .before .before .before .if1 .left)))
+
+add-t23 : tie.Need-add-t23
+add-t23 c = omega (arith, sent-small (c .before .before .before .before .before .before .before .before .before .before .before .before .before .before .before .before .before .before .before .before .before .args .self) (c .before .before .before .before .before .before .before .before .before .before .before .before .before .before .before .before .before .before .before .before .before .args .table .now) (is-accepted (c .before .before .before .before .before .before .before .before .before .before .before .before .before .before .before .before .before .before .before .before .before .args .self) (c .before .before .before .before .before .before .before .before .before .before .before .before .before .before .before .before .before .before .before .before .before .args .table .now) (sym (c .before .before .before .before .before .before .before .before .before .before .before .before .before .before .before .before .before .before .before .iterate-refusal .ensures) ∙ c .before .before .before .before .before .before .before .before .before .before .before .before .before .before .before .before .before .before .if1 .left)) (c .before .before .before .before .before .before .before .before .before .before .before .before .steps .result) (c .before .before .before .before .before .before .before .before .before .before .before .before .steps .ensures))
+
+returns-2 : tie.Need-returns-2
+returns-2 c =
+    let a = (is-accepted (c .before .before .before .before .before .before .before .before .before .before .before .before .before .before .before .before .before .before .before .before .before .args .self) (c .before .before .before .before .before .before .before .before .before .before .before .before .before .before .before .before .before .before .before .before .before .args .table .now) (sym (c .before .before .before .before .before .before .before .before .before .before .before .before .before .before .before .before .before .before .before .iterate-refusal .ensures) ∙ c .before .before .before .before .before .before .before .before .before .before .before .before .before .before .before .before .before .before .if1 .left)) in
+    iterate-taken _ _ _ (sym (c .before .before .before .before .before .before .before .before .before .before .before .before .before .before .before .before .before .before .before .iterate-refusal .ensures) ∙ c .before .before .before .before .before .before .before .before .before .before .before .before .before .before .before .before .before .before .if1 .left)
+    (next-is _ _ a (c .before .before .before .before .before .before .before .before .before .before .before .before .steps .result) (c .before .before .before .before .before .before .before .before .before .before .before .before .steps .ensures) _ _ (c .before .before .before .before .before .before .next-rows .ensures _ (grades _ _ a (c .before .before .before .before .before .before .before .before .before .before .before .before .steps .result) (c .before .before .before .before .before .before .before .before .before .before .before .before .steps .ensures))) (c .before .before .next-lists .ensures))
+
+pub iterate-spec : {M : Type 1} → statement M
+iterate-spec =
+    tie.close
+    (tie.spec
+    iterate-refusal-requires
+    returns
+    cast-steps
+    steps-requires
+    next-rows-requires
+    next-lists-requires
+    add-t21
+    add-t23
+    returns-2)

@@ -1,0 +1,121 @@
+-- One iteration put together: an accepted call is ready for steps 1 to 4, their reply is what step 5 is given, the counters stay
+-- small, and the parts are the document's next state.
+-- Assumes nothing.
+use mathlib.Core.Path.{_≡_, refl, sym, ap, _∙_}
+use mathlib.Core.Bool.{Bool, true, false, cond, _&&_}
+use mathlib.Core.List.{List}
+use Prim.Native.Nat.{ℕ, _+_, _*_, _≤_, _<_}
+use native.Mathlib.Nat.{mul-le-mul}
+use native.Mathlib.Omega.{arith}
+use lib.Dec.{ltb}
+use lib.ListN.{length}
+use borrow.Author.Tests.{ltb-false}
+use Rattle.counting.specs.Count.{build}
+use Rattle.counting.proofs.Build.{build-ext}
+use Rattle.sizes.specs.Sizes.{sound, tableRows}
+use Rattle.sizes.proofs.Laws.{inside-low, inside-high, tolerated-lt}
+use Rattle.gradecast.specs.declared.Cast.{Cast}
+use Rattle.gradecast.specs.Steps.{messages}
+use Rattle.gradecast.specs.Cast.{Ready, castReply}
+use Rattle.gradecast.proofs.Cells.{length-cells}
+use Rattle.gradecast.proofs.Messages.{messages-bound}
+use Rattle.gradecast.proofs.Places.{table-le}
+use Rattle.run.specs.declared.Run.{Run}
+use Rattle.run.specs.Grades.{GradesOf, Sized, listFrom}
+use Rattle.run.specs.Iteration.{entry, newRow, newList, nextRun}
+use Rattle.run.specs.State.{tooManySent}
+use Rattle.run.proofs.Accepted.{Accepted}
+use Rattle.run.proofs.Entries.{is-box, is-sound}
+use Rattle.run.proofs.Parts.{list-of}
+
+module _ (s : Run) (table : List ℕ) (a : Accepted s table) where
+  pub low : 1 ≤ s .n
+  low = inside-low (s .n) (a .legal .pass4)
+
+  pub high : s .n ≤ 13
+  high = inside-high (s .n) (a .legal .pass4)
+
+  pub few : 3 * s .t < s .n
+  few = tolerated-lt (s .n) (s .t) (a .legal .pass5)
+
+  pub ready : Ready (s .n) table
+  ready = record { low = low; high = high; whole = a .rows-of-table }
+
+  -- the counters stay small
+  pub done-small : s .done ≤ 4
+  done-small = omega (arith, a .done-few, few, high)
+
+  sent-few : s .sent ≤ s .done * tableRows (s .n)
+  unfolding tooManySent
+  sent-few = ltb-false (s .done * tableRows (s .n)) (s .sent) (a .legal .pass14-sent)
+
+  module _ (r : Cast) (e : r ≡ castReply (s .n) (s .t) (s .faulty) (s .rows) (s .lists) table) where
+    sent-is : r .sent ≡ messages (s .n) (s .t) (s .faulty) (s .rows) (s .lists) table
+    unfolding castReply
+    sent-is = ap (λ (c : Cast). c .sent) e
+
+    pub sent-small : s .sent + r .sent ≤ 22815
+    sent-small =
+        omega (
+          arith,
+          sent-few,
+          mul-le-mul done-small (table-le high),
+          table-le high,
+          sent-is,
+          messages-bound (s .n) (s .t) (s .faulty) (s .rows) (s .lists) table,
+        )
+
+    -- the reply of steps 1 to 4 is what step 5 is given
+    pub grades : GradesOf s table (r .rows) (r .confidences)
+    unfolding castReply
+    grades = record { found-rows = ap (λ (c : Cast). c .rows) e; found-confidences = ap (λ (c : Cast). c .confidences) e }
+
+    pub cast-sized : Sized s (r .rows) (r .confidences)
+    cast-sized =
+        record {
+          low = low;
+          high = high;
+          all-rows = ap length (grades .found-rows) ∙ length-cells (s .n) _ high;
+          all-confidences = ap length (grades .found-confidences) ∙ length-cells (s .n) _ high;
+        }
+
+    lists-are : build 13 (entry (s .n) (s .faulty) (listFrom s (r .confidences))) ≡ build 13 (entry (s .n) (s .faulty) (newList s table))
+    unfolding entry
+    lists-are =
+        build-ext 13 (entry (s .n) (s .faulty) (listFrom s (r .confidences))) (entry (s .n) (s .faulty) (newList s table))
+        (λ i l. go i (ltb i (s .n) && sound (s .faulty) i) refl)
+      where
+        go : (i : ℕ) (b : Bool) → ltb i (s .n) && sound (s .faulty) i ≡ b →
+            cond b (listFrom s (r .confidences) i) 0 ≡ cond b (newList s table i) 0
+        go i false h = refl
+        go i true h =
+            list-of s i low high
+            (record { is-box = is-box (s .n) (s .faulty) i h; is-sound = is-sound (s .n) (s .faulty) i h })
+            table (r .rows) (r .confidences) grades
+
+    -- the parts together are the next state
+    pub next-is : (rows lists : List ℕ) → rows ≡ build 13 (entry (s .n) (s .faulty) (newRow s table)) →
+        lists ≡ build 13 (entry (s .n) (s .faulty) (listFrom s (r .confidences))) →
+        _≡_ {A = Run}
+        (record {
+          n = s .n;
+          t = s .t;
+          faulty = s .faulty;
+          done = s .done + 1;
+          sent = s .sent + r .sent;
+          rows = rows;
+          lists = lists;
+        })
+        (nextRun s table)
+    unfolding nextRun
+    next-is rows lists er el =
+        λ i.
+        record {
+          n = s .n;
+          t = s .t;
+          faulty = s .faulty;
+          done = s .done + 1;
+          sent = s .sent + sent-is i;
+          rows = er i;
+          lists = (el ∙ lists-are) i;
+        }

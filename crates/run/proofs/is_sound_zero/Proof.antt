@@ -1,0 +1,20 @@
+-- `run::is_sound_zero` meets its contract: a faulty box is passed over, and a sound one by its row. Assumes nothing.
+use mathlib.Core.Path.{refl, sym, _∙_}
+use Rattle.sizes.specs.Sizes.{sound}
+use borrow.Author.Needs.{needs}
+use Rattle.run.proofs.is_sound_zero.Statement.{statement}
+use Rattle.run.proofs.is_sound_zero.Tie as tie
+
+is-member-requires : tie.Need-is-member-requires
+is-member-requires c κs = search needs
+
+returns : tie.Need-returns
+unfolding sound
+returns c = rw (sym (c .before .is-member .ensures) ∙ c .if1 .taken) refl
+
+returns-2 : tie.Need-returns-2
+unfolding sound
+returns-2 c = rw (sym (c .before .is-member .ensures) ∙ c .if1 .left) refl
+
+pub is-sound-zero-spec : {M : Type 1} → statement M
+is-sound-zero-spec = tie.close (tie.spec is-member-requires returns returns-2)

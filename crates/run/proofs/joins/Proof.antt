@@ -1,0 +1,26 @@
+-- `run::joins` meets its contract: confidence 0 or 1 joins, and any other leader stays if it was on the list. Assumes nothing.
+use mathlib.Core.Path.{sym, ap, _∙_}
+use mathlib.Core.Bool.{Bool, _||_, or-false}
+use borrow.Author.Tests.{lt-ltb, le-ltb}
+use Rattle.counting.specs.Sets.{member}
+use Rattle.counting.proofs.Bools.{or-true-right}
+use borrow.Author.Needs.{needs}
+use Rattle.run.proofs.joins.Statement.{statement}
+use Rattle.run.proofs.joins.Tie as tie
+
+is-member-requires : tie.Need-is-member-requires
+is-member-requires c κs = search needs
+
+returns : tie.Need-returns
+returns c =
+    sym
+    (or-true-right (member (c .before .args .old) (c .before .args .k)) (lt-ltb (c .before .args .confidence) 2 (search needs)))
+
+returns-2 : tie.Need-returns-2
+returns-2 c =
+    c .is-member .ensures
+    ∙ sym (or-false _)
+    ∙ ap (λ (b : Bool). member (c .before .before .args .old) (c .before .before .args .k) || b) (sym (le-ltb (c .before .before .args .confidence) 2 (search needs)))
+
+pub joins-spec : {M : Type 1} → statement M
+joins-spec = tie.close (tie.spec is-member-requires returns returns-2)

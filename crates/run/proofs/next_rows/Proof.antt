@@ -1,0 +1,61 @@
+-- `run::next_rows` meets its contract: after i turns the first i rows are filled. What is left of 13 falls. Assumes nothing.
+use mathlib.Core.Path.{_≡_, refl}
+use mathlib.Core.List.{List}
+use Prim.Native.Nat.{ℕ, _≤_, _-_}
+use native.Mathlib.Omega.{arith}
+use lib.ListN.{replicate}
+use Rattle.counting.specs.Count.{front}
+use Rattle.counting.proofs.Build.{front-none, front-turn, front-whole, front-all}
+use Rattle.run.specs.Grades.{GradesOf}
+use Rattle.run.specs.Iteration.{newRow, entry}
+use borrow.Author.Needs.{needs}
+use Rattle.run.proofs.next_rows.Statement.{statement}
+use Rattle.run.proofs.next_rows.Tie as tie
+
+abbrev Inv-loop : tie.InvT-loop
+Inv-loop s rows confidences out₀ i₀ out i =
+    (i ≤ 13) ×
+    ((table : List ℕ) → GradesOf s table rows confidences →
+    out ≡ front i (entry (s .n) (s .faulty) (newRow s table)) (replicate 13 0))
+
+abbrev μ-loop : tie.MeasureT-loop
+μ-loop s rows confidences out₀ i₀ out i = 13 - i
+
+loop-holds : tie.Need-loop-holds Inv-loop μ-loop
+loop-holds c = (search needs, λ table g. front-none _ (replicate 13 0))
+
+row-at-requires : tie.Need-row-at-requires Inv-loop μ-loop
+row-at-requires c κs = (c .before .before .before .before .pre, c .loop-test .taken)
+
+mul-out : tie.Need-mul-out Inv-loop μ-loop
+mul-out c = search needs
+
+array-write-out : tie.Need-array-write-out Inv-loop μ-loop
+array-write-out c = search needs
+
+add-i : tie.Need-add-i Inv-loop μ-loop
+add-i c = search needs
+
+loop-less : tie.Need-loop-less Inv-loop μ-loop
+loop-less c = search needs
+
+loop-again : tie.Need-loop-again Inv-loop μ-loop
+loop-again c = (search needs, λ table g. front-turn _ _ (replicate 13 0) _ (search needs) (c .before .before .loop .inv .1 table g) (c .row-at .ensures table g))
+
+returns : tie.Need-returns Inv-loop μ-loop
+returns c = λ table g. front-all _ (replicate 13 0) 13 refl (front-whole _ (replicate 13 0) (omega arith) (c .before .loop .inv .1 table g))
+
+pub next-rows-spec : {M : Type 1} → statement M
+next-rows-spec =
+    tie.close
+    (tie.spec
+    Inv-loop
+    μ-loop
+    loop-holds
+    row-at-requires
+    mul-out
+    array-write-out
+    add-i
+    loop-less
+    loop-again
+    returns)

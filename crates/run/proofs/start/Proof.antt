@@ -1,0 +1,32 @@
+-- `run::start` meets its contract: it refuses with a state of zeros, and otherwise builds the state from the rows. Assumes nothing.
+use mathlib.Core.Path.{_≡_, refl, sym, ap, _∙_}
+use mathlib.Core.List.{List}
+use Prim.Native.Nat.{ℕ}
+use lib.ListN.{replicate}
+use Rattle.run.specs.declared.Run.{Run}
+use Rattle.run.specs.State.{startRun, zeros}
+use Rattle.run.proofs.Accepted.{is-start-accepted}
+use Rattle.run.proofs.Refusals.{start-refused, start-taken}
+use borrow.Author.Needs.{needs}
+use Rattle.run.proofs.start.Statement.{statement}
+use Rattle.run.proofs.start.Tie as tie
+
+start-refusal-requires : tie.Need-start-refusal-requires
+start-refusal-requires c κs = search needs
+
+returns : tie.Need-returns
+unfolding zeros
+returns c = start-refused _ _ _ _ _ (c .before .start-refusal .ensures) (c .if1 .taken)
+
+start-rows-requires : tie.Need-start-rows-requires
+start-rows-requires c κs = is-start-accepted _ _ _ _ (sym (c .before .start-refusal .ensures) ∙ c .if1 .left) .pass11
+
+returns-2 : tie.Need-returns-2
+unfolding startRun
+returns-2 c =
+    let a = c .before .before .before .before .args in
+    start-taken _ _ _ _ _ (sym (c .before .before .start-refusal .ensures) ∙ c .before .if1 .left)
+    (λ i. record { n = a .n; t = a .t; faulty = a .faulty; done = 0; sent = 0; rows = c .start-rows .ensures i; lists = replicate 13 0 })
+
+pub start-spec : {M : Type 1} → statement M
+start-spec = tie.close (tie.spec start-refusal-requires returns start-rows-requires returns-2)

@@ -1,0 +1,33 @@
+-- What step 5 is given: the rows and the confidences that every sound box found in step 4, each in 169 places.
+use mathlib.Core.Path.{_≡_}
+use mathlib.Core.Bool.{false, _||_}
+use mathlib.Core.List.{List}
+use Prim.Native.Nat.{ℕ, _+_, _*_, _≤_, _<_}
+use lib.Dec.{ltb}
+use lib.ListN.{length, getD}
+use Rattle.counting.specs.Sets.{member, setOf}
+use Rattle.gradecast.specs.Steps.{gradeRow, confidence}
+use Rattle.gradecast.specs.Cast.{ofSound, cells}
+use Rattle.run.specs.declared.Run.{Run}
+
+pub record GradesOf (s : Run) (table rows confidences : List ℕ) : Type 0 where
+  pub found-rows : rows ≡ cells (s .n) (ofSound (s .faulty) (gradeRow (s .n) (s .t) (s .faulty) (s .rows) (s .lists) table))
+  pub found-confidences :
+      confidences ≡ cells (s .n) (ofSound (s .faulty) (confidence (s .n) (s .t) (s .faulty) (s .rows) (s .lists) table))
+
+-- the sizes that step 5 counts on
+pub record Sized (s : Run) (rows confidences : List ℕ) : Type 0 where
+  pub low : 1 ≤ s .n
+  pub high : s .n ≤ 13
+  pub all-rows : length rows ≡ 169
+  pub all-confidences : length confidences ≡ 169
+
+-- box i is one of the n, and sound
+pub record Working (s : Run) (i : ℕ) : Type 0 where
+  pub is-box : i < s .n
+  pub is-sound : member (s .faulty) i ≡ false
+
+-- the new list of box i from the confidences in 169 places
+unfoldable pub listFrom : Run → List ℕ → ℕ → ℕ
+listFrom s confidences i =
+    setOf (s .n) (λ k. member (getD (s .lists) i 0) k || ltb (getD confidences (i * s .n + k) 0) 2)
