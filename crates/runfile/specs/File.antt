@@ -36,9 +36,13 @@ tOf n byte = cond (eqb byte 255) (largestT n) byte
 unfoldable pub headingBytes : ℕ → ℕ
 headingBytes n = 9 + 8 * n
 
--- row k of the heading, and row k of a table
+-- row k of those that begin at a place, each of 64 bits
+unfoldable pub rowFrom : ℕ → List ℕ → ℕ → ℕ
+rowFrom at bytes k = number bytes (at + 8 * k) 8
+
+-- the heading's rows begin behind its 9 bytes, and a table's with its first byte
 unfoldable pub headingRow : List ℕ → ℕ → ℕ
-headingRow bytes k = number bytes (9 + 8 * k) 8
+headingRow = rowFrom 9
 
 unfoldable pub tableRow : List ℕ → ℕ → ℕ
-tableRow bytes k = number bytes (8 * k) 8
+tableRow = rowFrom 0

@@ -13,10 +13,9 @@ use Rattle.runfile.specs.declared.Heading.{Heading}
 use Rattle.runfile.specs.File.{marked, versionOf, nOf, tByte, faultyOf, tOf, headingBytes, headingRow, tableRow}
 
 -- the heading reader's refusals: 1, 2, 3, 4, 5 (255 passes), 6, 8, 9, 10; `room` is the length of the lent slice
-unfoldable pub headingRefusal : List ℕ → ℕ → ℕ
-headingRefusal bytes room =
-    firstOf
-    (refuse 1 (ltb (length bytes) 9) ∷
+unfoldable pub headingTests : List ℕ → ℕ → List Refusal
+headingTests bytes room =
+    refuse 1 (ltb (length bytes) 9) ∷
     refuse 2 (not (marked bytes)) ∷
     refuse 3 (not (eqb (versionOf bytes) 1)) ∷
     refuse 4 (outside (nOf bytes)) ∷
@@ -25,16 +24,21 @@ headingRefusal bytes room =
     refuse 8 (ltb (length bytes) (headingBytes (nOf bytes))) ∷
     refuse 9 (soundZero (nOf bytes) (faultyOf bytes) (build (nOf bytes) (headingRow bytes))) ∷
     refuse 10 (ltb room (nOf bytes)) ∷
-    [])
+    []
+
+unfoldable pub headingRefusal : List ℕ → ℕ → ℕ
+headingRefusal bytes room = firstOf (headingTests bytes room)
 
 -- the table reader's refusals: 4, 8, 10
-unfoldable pub tableRefusal : ℕ → List ℕ → ℕ → ℕ
-tableRefusal n bytes room =
-    firstOf
-    (refuse 4 (outside n) ∷
+unfoldable pub tableTests : ℕ → List ℕ → ℕ → List Refusal
+tableTests n bytes room =
+    refuse 4 (outside n) ∷
     refuse 8 (not (eqb (length bytes) (8 * tableRows n))) ∷
     refuse 10 (ltb room (tableRows n)) ∷
-    [])
+    []
+
+unfoldable pub tableRefusal : ℕ → List ℕ → ℕ → ℕ
+tableRefusal n bytes room = firstOf (tableTests n bytes room)
 
 unfoldable pub nothingRead : ℕ → Heading
 nothingRead refusal = record { refusal = refusal; version = 0; n = 0; t = 0; faulty = 0 }
