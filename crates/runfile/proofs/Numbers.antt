@@ -15,7 +15,7 @@ number-split bytes at a zero = ap (number bytes at) (add-zero a) ∙ omega arith
 number-split bytes at a (suc b) =
     let whole = number-split bytes at a b in
     let power : number bytes at a * 256 ^ suc b ≡ number bytes at a * 256 ^ b * 256 =
-        ap (λ (m : ℕ). number bytes at a * m) (pow-suc 256 b) ∙ sym (mul-assoc (number bytes at a) (256 ^ b) 256) in
+    ap (λ (m : ℕ). number bytes at a * m) (pow-suc 256 b) ∙ sym (mul-assoc (number bytes at a) (256 ^ b) 256) in
     let place : getD bytes (at + (a + b)) 0 ≡ getD bytes (at + a + b) 0 =
-        ap (λ (m : ℕ). getD bytes m 0) (sym (add-assoc at a b)) in
+    ap (λ (m : ℕ). getD bytes m 0) (sym (add-assoc at a b)) in
     ap (number bytes at) (add-suc a b) ∙ omega arith

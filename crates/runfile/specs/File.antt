@@ -15,15 +15,15 @@ number bytes at (suc size) = number bytes at size * 256 + getD bytes (at + size)
 unfoldable pub marked : List ℕ → Bool
 marked bytes = eqb (getD bytes 0 0) 72 && eqb (getD bytes 1 0) 78 && eqb (getD bytes 2 0) 66
 
--- version in 16 bits, n in 8, t in 8, faulty set in 16
+-- version in 16 bits, n in 8 and t in 8, which is a byte each, faulty set in 16
 unfoldable pub versionOf : List ℕ → ℕ
 versionOf bytes = number bytes 3 2
 
 unfoldable pub nOf : List ℕ → ℕ
-nOf bytes = number bytes 5 1
+nOf bytes = getD bytes 5 0
 
 unfoldable pub tByte : List ℕ → ℕ
-tByte bytes = number bytes 6 1
+tByte bytes = getD bytes 6 0
 
 unfoldable pub faultyOf : List ℕ → ℕ
 faultyOf bytes = number bytes 7 2

@@ -48,11 +48,11 @@ unfoldable pub headingReply : List ℕ → ℕ → Heading
 headingReply bytes room =
     cond (eqb (headingRefusal bytes room) 0)
     (record {
-    refusal = 0;
-    version = versionOf bytes;
-    n = nOf bytes;
-    t = tOf (nOf bytes) (tByte bytes);
-    faulty = faultyOf bytes
+      refusal = 0;
+      version = versionOf bytes;
+      n = nOf bytes;
+      t = tOf (nOf bytes) (tByte bytes);
+      faulty = faultyOf bytes;
     })
     (nothingRead (headingRefusal bytes room))
 

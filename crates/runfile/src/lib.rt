@@ -183,7 +183,13 @@ pub fn read_heading(bytes: &[u8], rows: &mut [u64]) -> Heading
 {
     let refusal = heading_refusal(bytes, rows.len());
     if refusal != 0 {
-        return Heading { refusal, version: 0, n: 0, t: 0, faulty: 0 };
+        return Heading {
+            refusal,
+            version: 0,
+            n: 0,
+            t: 0,
+            faulty: 0,
+        };
     }
     let n = bytes[5];
     write_rows(bytes, 9, n as usize, rows);

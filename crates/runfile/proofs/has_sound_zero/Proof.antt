@@ -61,7 +61,7 @@ is-sound-zero-requires c κs = omega (arith, inside-high _ (c .before .before .b
 
 returns : tie.Need-returns Inv-loop μ-loop
 unfolding soundZero
-returns c = 
+returns c =
     sym
     (some-any _ _ (c .before .before .before .before .loop .k) (search needs) (at-box (c .before) ∙ c .if1 .taken))
 
@@ -72,12 +72,12 @@ loop-less : tie.Need-loop-less Inv-loop μ-loop
 loop-less c = search needs
 
 loop-again : tie.Need-loop-again Inv-loop μ-loop
-loop-again c = 
+loop-again c =
     (search needs, any-turn _ _ (c .before .before .before .before .loop .inv .1) (at-box (c .before) ∙ c .if1 .left))
 
 returns-2 : tie.Need-returns-2 Inv-loop μ-loop
 unfolding soundZero
-returns-2 c = 
+returns-2 c =
     let whole : c .before .loop .k ≡ c .before .before .before .args .n = omega arith in
     let f = c .before .before .before .args in
     sym (ap (λ (m : ℕ). any m (zeroAt (f .bytes .now) (f .n) (f .faulty))) (sym whole) ∙ c .before .loop .inv .1)

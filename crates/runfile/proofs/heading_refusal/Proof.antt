@@ -1,114 +1,167 @@
+-- `runfile::heading_refusal` meets its contract: it makes the nine tests in their order. What is left of the list of tests is followed
+-- from one to the next. Assumes nothing.
+use mathlib.Core.Path.{_≡_, sym, ap, _∙_}
+use mathlib.Core.Bool.{not, false}
+use mathlib.Core.List.{[]}
+use Prim.Native.Nat.{ℕ}
+use native.Mathlib.Omega.{arith}
+use lib.Dec.{ltb}
+use lib.ListN.{drop, getD}
+use borrow.Author.Tests.{eq-eqb, ne-eqb, lt-ltb, le-ltb}
+use Rattle.counting.specs.Count.{build}
+use Rattle.counting.specs.Refuse.{firstOf}
+use Rattle.counting.proofs.Bools.{not-of-true, not-of-false}
+use Rattle.counting.proofs.Refuse.{refused, passed}
+use Rattle.sizes.specs.Sizes.{outside, stray, soundZero}
+use Rattle.sizes.proofs.Laws.{inside-high}
+use Rattle.runfile.specs.File.{versionOf, nOf, tByte, faultyOf, headingBytes, headingRow}
+use Rattle.runfile.specs.Reply.{headingTests, headingRefusal}
 use borrow.Author.Needs.{needs}
 use Rattle.runfile.proofs.heading_refusal.Statement.{statement}
 use Rattle.runfile.proofs.heading_refusal.Tie as tie
-use Rattle.runfile.proofs.heading_refusal.Reads as reads
-use Rattle.runfile.proofs.heading_refusal.Lts as lts
-use Rattle.runfile.proofs.has_sound_zero.Reads as has-sound-zero-reads
-use Rattle.runfile.proofs.is_marked.Reads as is-marked-reads
-use Rattle.runfile.proofs.is_outside.Reads as is-outside-reads
-use Rattle.runfile.proofs.is_stray.Reads as is-stray-reads
-use Rattle.runfile.proofs.is_too_many.Reads as is-too-many-reads
-use Rattle.runfile.proofs.number2.Reads as number2-reads
 
--- src/lib.rt:135:9
+-- the tests up to a place of the list are passed
+abbrev Passed : tie.Start → ℕ → Type 0
+Passed s k =
+    headingRefusal (s .args .bytes .now) (s .args .room)
+    ≡ firstOf (drop k (headingTests (s .args .bytes .now) (s .args .room)))
+
+passed-1 : (c : tie.Else1) → Passed (c .before .before) 1
+unfolding headingRefusal headingTests
+passed-1 c = passed 1 _ (le-ltb _ _ (c .if1 .left))
+
+passed-2 : (c : tie.Else2) → Passed (c .before .before .before .before) 2
+unfolding headingTests
+passed-2 c = passed-1 (c .before .before) ∙ passed 2 _ (ap not (sym (c .before .is-marked .ensures)) ∙ c .if2 .left)
+
+passed-3 : (c : tie.Else3) → Passed (c .before .before .before .before .before .before) 3
+unfolding headingTests versionOf
+passed-3 c = passed-2 (c .before .before) ∙ passed 3 _ (not-of-true (eq-eqb _ _ (sym (c .before .number2 .ensures .0) ∙ c .if3 .left)))
+
+inside-of : (c : tie.Else4) → outside (getD (c .before .before .before .before .before .before .before .before .before .args .bytes .now) 5 0) ≡ false
+inside-of c = sym (c .before .is-outside .ensures) ∙ c .if4 .left
+
+passed-4 : (c : tie.Else4) → Passed (c .before .before .before .before .before .before .before .before .before) 4
+unfolding headingTests nOf
+passed-4 c = passed-3 (c .before .before .before) ∙ passed 4 _ (inside-of c)
+
+passed-5 : (c : tie.Else5) → Passed (c .before .before .before .before .before .before .before .before .before .before .before .before) 5
+unfolding headingTests nOf tByte
+passed-5 c = passed-4 (c .before .before .before) ∙ passed 5 _ (sym (c .before .is-too-many .ensures) ∙ c .if5 .left)
+
+-- the faulty set is the number that was read
+stray-of : (c : tie.After-is-stray) →
+    stray (getD (c .before .before .before .before .before .before .before .before .before .before .before .before .before .before .args .bytes .now) 5 0) (faultyOf (c .before .before .before .before .before .before .before .before .before .before .before .before .before .before .args .bytes .now)) ≡ c .is-stray .result
+unfolding faultyOf
+stray-of c = ap (stray _) (sym (c .before .number22 .ensures .0)) ∙ sym (c .is-stray .ensures)
+
+passed-6 : (c : tie.Else6) → Passed (c .before .before .before .before .before .before .before .before .before .before .before .before .before .before .before) 6
+unfolding headingTests nOf
+passed-6 c = passed-5 (c .before .before .before) ∙ passed 6 _ (stray-of (c .before) ∙ c .if6 .left)
+
+passed-8 : (c : tie.Else7) → Passed (c .before .before .before .before .before .before .before .before .before .before .before .before .before .before .before .before) 7
+unfolding headingTests nOf headingBytes
+passed-8 c = passed-6 (c .before) ∙ passed 8 _ (le-ltb _ _ (c .if7 .left))
+
+zero-of : (c : tie.After-has-sound-zero) →
+    soundZero (getD (c .before .before .before .before .before .before .before .before .before .before .before .before .before .before .before .before .before .args .bytes .now) 5 0) (faultyOf (c .before .before .before .before .before .before .before .before .before .before .before .before .before .before .before .before .before .args .bytes .now))
+    (build (getD (c .before .before .before .before .before .before .before .before .before .before .before .before .before .before .before .before .before .args .bytes .now) 5 0) (headingRow (c .before .before .before .before .before .before .before .before .before .before .before .before .before .before .before .before .before .args .bytes .now)))
+    ≡ c .has-sound-zero .result
+unfolding faultyOf
+zero-of c =
+    let n = getD (c .before .before .before .before .before .before .before .before .before .before .before .before .before .before .before .before .before .args .bytes .now) 5 0 in
+    ap (λ (faulty : ℕ). soundZero n faulty (build n (headingRow (c .before .before .before .before .before .before .before .before .before .before .before .before .before .before .before .before .before .args .bytes .now)))) (sym (c .before .before .before .before .number22 .ensures .0))
+    ∙ sym (c .has-sound-zero .ensures)
+
+passed-9 : (c : tie.Else8) → Passed (c .before .before .before .before .before .before .before .before .before .before .before .before .before .before .before .before .before .before) 8
+unfolding headingTests nOf
+passed-9 c = passed-8 (c .before .before) ∙ passed 9 _ (zero-of (c .before) ∙ c .if8 .left)
+
 returns : tie.Need-returns
-returns c = search needs
+unfolding headingRefusal headingTests
+returns c = sym (refused 1 _ (lt-ltb _ _ (c .if1 .taken)))
 
--- src/lib.rt:137:9
 is-marked-requires : tie.Need-is-marked-requires
 is-marked-requires c κs = search needs
 
--- src/lib.rt:138:9
 returns-2 : tie.Need-returns-2
-returns-2 c = search needs
+unfolding headingTests
+returns-2 c = sym (passed-1 (c .before .before) ∙ refused 2 _ (ap not (sym (c .before .is-marked .ensures)) ∙ c .if2 .taken))
 
--- src/lib.rt:140:8
 number2-requires : tie.Need-number2-requires
 number2-requires c κs = search needs
 
--- src/lib.rt:141:9
 returns-3 : tie.Need-returns-3
-returns-3 c = search needs
+unfolding headingTests versionOf
+returns-3 c = sym (passed-2 (c .before .before) ∙ refused 3 _ (not-of-false (ne-eqb _ _ (λ e. c .if3 .taken (c .before .number2 .ensures .0 ∙ e)))))
 
--- src/lib.rt:143:13
 shared-slice-read-n : tie.Need-shared-slice-read-n
 shared-slice-read-n c = search needs
 
--- src/lib.rt:144:8
 is-outside-requires : tie.Need-is-outside-requires
 is-outside-requires c κs = search needs
 
--- src/lib.rt:145:9
 returns-4 : tie.Need-returns-4
-returns-4 c = search needs
+unfolding headingTests nOf
+returns-4 c = sym (passed-3 (c .before .before .before) ∙ refused 4 _ (sym (c .before .is-outside .ensures) ∙ c .if4 .taken))
 
--- src/lib.rt:147:23
 shared-slice-read-is-too-many : tie.Need-shared-slice-read-is-too-many
 shared-slice-read-is-too-many c = search needs
 
--- src/lib.rt:147:8
 is-too-many-requires : tie.Need-is-too-many-requires
-is-too-many-requires c κs = search needs
+is-too-many-requires c κs = inside-of (c .before)
 
--- src/lib.rt:148:9
 returns-5 : tie.Need-returns-5
-returns-5 c = search needs
+unfolding headingTests nOf tByte
+returns-5 c = sym (passed-4 (c .before .before .before) ∙ refused 5 _ (sym (c .before .is-too-many .ensures) ∙ c .if5 .taken))
 
--- src/lib.rt:150:18
 number2-requires-2 : tie.Need-number2-requires-2
 number2-requires-2 c κs = search needs
 
--- src/lib.rt:150:18
 cast-faulty : tie.Need-cast-faulty
 cast-faulty c = search needs
 
--- src/lib.rt:151:8
 is-stray-requires : tie.Need-is-stray-requires
-is-stray-requires c κs = search needs
+is-stray-requires c κs = inside-of (c .before .before .before .before)
 
--- src/lib.rt:152:9
 returns-6 : tie.Need-returns-6
-returns-6 c = search needs
+unfolding headingTests nOf
+returns-6 c = sym (passed-5 (c .before .before .before) ∙ refused 6 _ (stray-of (c .before) ∙ c .if6 .taken))
 
--- src/lib.rt:154:31
 cast-if7 : tie.Need-cast-if7
-cast-if7 c = search needs
+cast-if7 c = omega (arith, inside-high _ (inside-of (c .before .before .before .before .before .before)))
 
--- src/lib.rt:154:26
 mul-if7 : tie.Need-mul-if7
-mul-if7 c = search needs
+mul-if7 c = omega (arith, inside-high _ (inside-of (c .before .before .before .before .before .before)))
 
--- src/lib.rt:154:22
 add-if7 : tie.Need-add-if7
-add-if7 c = search needs
+add-if7 c = omega (arith, inside-high _ (inside-of (c .before .before .before .before .before .before)))
 
--- src/lib.rt:155:9
 returns-7 : tie.Need-returns-7
-returns-7 c = search needs
+unfolding headingTests nOf headingBytes
+returns-7 c = sym (passed-6 (c .before) ∙ refused 8 _ (lt-ltb _ _ (c .if7 .taken)))
 
--- src/lib.rt:157:30
 cast-has-sound-zero : tie.Need-cast-has-sound-zero
 cast-has-sound-zero c = search needs
 
--- src/lib.rt:157:8
 has-sound-zero-requires : tie.Need-has-sound-zero-requires
-has-sound-zero-requires c κs = search needs
+unfolding headingBytes
+has-sound-zero-requires c κs = (inside-of (c .before .before .before .before .before .before .before), search needs)
 
--- src/lib.rt:158:9
 returns-8 : tie.Need-returns-8
-returns-8 c = search needs
+unfolding headingTests nOf
+returns-8 c = sym (passed-8 (c .before .before) ∙ refused 9 _ (zero-of (c .before) ∙ c .if8 .taken))
 
--- src/lib.rt:160:15
 cast-if9 : tie.Need-cast-if9
 cast-if9 c = search needs
 
--- src/lib.rt:161:9
 returns-9 : tie.Need-returns-9
-returns-9 c = search needs
+unfolding headingTests nOf
+returns-9 c = sym (passed-9 (c .before) ∙ refused 10 _ (lt-ltb _ _ (c .if9 .taken)))
 
--- src/lib.rt:131:1
 returns-10 : tie.Need-returns-10
-returns-10 c = search needs
+unfolding headingTests nOf firstOf
+returns-10 c = sym (passed-9 (c .before) ∙ passed 10 [] (le-ltb _ _ (c .if9 .left)))
 
 pub heading-refusal-spec : {M : Type 1} → statement M
 heading-refusal-spec =

@@ -15,7 +15,7 @@ shl-result c = omega (arith, inside-high (c .args .n) (c .pre))
 
 returns : tie.Need-returns
 unfolding stray
-returns c = 
+returns c =
     ap (λ (m : ℕ). leb m (c .args .set))
     (ap (λ (m : ℕ). m % 65536) (one-mul (2 ^ c .args .n))
     ∙ mod-eq-of-lt (pow-lt {j = 16} (omega (arith, inside-high (c .args .n) (c .pre)))))

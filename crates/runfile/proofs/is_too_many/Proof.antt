@@ -22,11 +22,12 @@ unfolding tooMany
 returns-2 c = rw (ne-eqb (c .before .before .args .t) 255 (c .before .match .rest .1))
 
 returns-3 : tie.Need-returns-3
-returns-3 c = 
-    rw
-    (ne-eqb (c .before .before .args .t) 255 (c .before .match .rest .1),
-    not-tolerated (c .before .before .args .n) (c .before .before .args .t)
-    (omega (arith, inside-high (c .before .before .args .n) (c .before .before .pre))))
+returns-3 c =
+    rw (
+      ne-eqb (c .before .before .args .t) 255 (c .before .match .rest .1),
+      not-tolerated (c .before .before .args .n) (c .before .before .args .t)
+          (omega (arith, inside-high (c .before .before .args .n) (c .before .before .pre))),
+    )
 
 pub is-too-many-spec : {M : Type 1} → statement M
 is-too-many-spec = tie.close (tie.spec mul-result returns returns-2 returns-3)

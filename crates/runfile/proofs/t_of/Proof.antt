@@ -14,7 +14,7 @@ largest-t-requires c κs = search needs
 
 returns : tie.Need-returns
 unfolding tOf
-returns c = 
+returns c =
     c .largest-t .ensures
     ∙ by-n-inside largestT (c .before .before .args .n) (c .before .before .pre)
     ∙ sym (cond-true _ _ (eq-eqb _ _ (c .before .match .keys1)))

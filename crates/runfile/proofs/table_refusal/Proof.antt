@@ -1,8 +1,10 @@
 -- `runfile::table_refusal` meets its contract: it makes the tests of refusals 4, 8 and 10 in their order. Assumes nothing.
 use mathlib.Core.Path.{_≡_, sym, ap, _∙_}
 use mathlib.Core.Bool.{not, false}
+use mathlib.Core.List.{[]}
 use Prim.Native.Nat.{ℕ, _*_}
 use native.Mathlib.Omega.{arith}
+use lib.Dec.{ltb}
 use lib.ListN.{drop}
 use borrow.Author.Tests.{eq-eqb, ne-eqb, lt-ltb, le-ltb}
 use Rattle.counting.specs.Refuse.{firstOf}
@@ -16,6 +18,12 @@ use borrow.Author.Needs.{needs}
 use Rattle.runfile.proofs.table_refusal.Statement.{statement}
 use Rattle.runfile.proofs.table_refusal.Tie as tie
 
+-- the tests up to a place of the list are passed
+abbrev Passed : tie.Start → ℕ → Type 0
+Passed s k =
+    tableRefusal (s .args .n) (s .args .bytes .now) (s .args .room)
+    ≡ firstOf (drop k (tableTests (s .args .n) (s .args .bytes .now) (s .args .room)))
+
 inside-of : (c : tie.Else1) → outside (c .before .before .before .args .n) ≡ false
 inside-of c = sym (c .before .is-outside .ensures) ∙ c .if1 .left
 
@@ -23,23 +31,12 @@ inside-of c = sym (c .before .is-outside .ensures) ∙ c .if1 .left
 rows-of : (c : tie.After-table-rows) → c .table-rows .result ≡ tableRows (c .before .before .before .before .args .n)
 rows-of c = c .table-rows .ensures ∙ by-n-inside tableRows _ (inside-of (c .before))
 
--- what is left of the tests once 4, and then 8, is passed
-passed-4 : (c : tie.Else1) →
-    tableRefusal (c .before .before .before .args .n) (c .before .before .before .args .bytes .now) (c .before .before .before .args .room)
-    ≡ firstOf
-    (drop 1
-    (tableTests (c .before .before .before .args .n) (c .before .before .before .args .bytes .now) (c .before .before .before .args .room)))
+passed-4 : (c : tie.Else1) → Passed (c .before .before .before) 1
 unfolding tableRefusal tableTests
 passed-4 c = passed 4 _ (inside-of c)
 
-passed-8 : (c : tie.Else2) →
-    tableRefusal (c .before .before .before .before .before .args .n) (c .before .before .before .before .before .args .bytes .now)
-    (c .before .before .before .before .before .args .room)
-    ≡ firstOf
-    (drop 2
-    (tableTests (c .before .before .before .before .before .args .n) (c .before .before .before .before .before .args .bytes .now)
-    (c .before .before .before .before .before .args .room)))
-unfolding tableRefusal tableTests
+passed-8 : (c : tie.Else2) → Passed (c .before .before .before .before .before) 2
+unfolding tableTests
 passed-8 c =
     passed-4 (c .before .before) ∙ passed 8 _ (not-of-true (eq-eqb _ _ (c .if2 .left ∙ ap (λ (m : ℕ). 8 * m) (rows-of (c .before)))))
 
@@ -58,20 +55,20 @@ mul-if2 c = omega (arith, rows-of c, table-rows-most _ (inside-of (c .before)))
 
 returns-2 : tie.Need-returns-2
 unfolding tableRefusal tableTests
-returns-2 c = 
+returns-2 c =
     sym
     (passed-4 (c .before .before)
     ∙ refused 8 _ (not-of-false (ne-eqb _ _ (λ e. c .if2 .taken (e ∙ ap (λ (m : ℕ). 8 * m) (sym (rows-of (c .before))))))))
 
 returns-3 : tie.Need-returns-3
 unfolding tableRefusal tableTests
-returns-3 c = 
-    sym (passed-8 (c .before) ∙ refused 10 _ (lt-ltb _ _ (omega (arith, rows-of (c .before .before)))))
+returns-3 c =
+    sym (passed-8 (c .before) ∙ refused 10 _ (ap (ltb _) (sym (rows-of (c .before .before))) ∙ lt-ltb _ _ (c .if3 .taken)))
 
 returns-4 : tie.Need-returns-4
 unfolding tableTests firstOf
-returns-4 c = 
-    sym (passed-8 (c .before) ∙ passed 10 _ (le-ltb _ _ (omega (arith, rows-of (c .before .before)))))
+returns-4 c =
+    sym (passed-8 (c .before) ∙ passed 10 [] (ap (ltb _) (sym (rows-of (c .before .before))) ∙ le-ltb _ _ (c .if3 .left)))
 
 pub table-refusal-spec : {M : Type 1} → statement M
 table-refusal-spec =

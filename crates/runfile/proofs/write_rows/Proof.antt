@@ -33,7 +33,7 @@ mul-rows : tie.Need-mul-rows Inv-loop μ-loop
 mul-rows c = search needs
 
 slice-write-rows : tie.Need-slice-write-rows Inv-loop μ-loop
-slice-write-rows c = 
+slice-write-rows c =
     let f = c .before .before .before .before .before .args in
     let l : c .before .before .loop .k ≤ length (f .rows .now) = omega arith in
     omega (arith, ap length (c .before .before .loop .inv .1), front-length (c .before .before .loop .k) (rowFrom (f .at) (f .bytes .now)) (f .rows .now) l)
@@ -49,7 +49,7 @@ unfolding rowFrom
 loop-again c = (search needs, front-turn _ _ _ _ _ (search needs) (c .before .before .loop .inv .1) (c .number8 .ensures))
 
 same-length : tie.Need-same-length Inv-loop μ-loop
-same-length c = 
+same-length c =
     let f = c .before .before .before .before .args in
     ap length (c .before .loop .inv .1) ∙ front-length (c .before .loop .k) (rowFrom (f .at) (f .bytes .now)) (f .rows .now) (omega arith)
 
