@@ -40,21 +40,24 @@ tableTests n bytes room =
 unfoldable pub tableRefusal : ℕ → List ℕ → ℕ → ℕ
 tableRefusal n bytes room = firstOf (tableTests n bytes room)
 
-unfoldable pub nothingRead : ℕ → Heading
-nothingRead refusal = record { refusal = refusal; version = 0; n = 0; t = 0; faulty = 0 }
-
--- version, n, t (the number that 255 stands for) and the faulty set
-unfoldable pub headingReply : List ℕ → ℕ → Heading
-headingReply bytes room =
-    cond (eqb (headingRefusal bytes room) 0)
-    (record {
+-- what a heading says: version, n, t (the number that 255 stands for) and the faulty set
+unfoldable pub headingOf : List ℕ → Heading
+headingOf bytes =
+    record {
       refusal = 0;
       version = versionOf bytes;
       n = nOf bytes;
       t = tOf (nOf bytes) (tByte bytes);
       faulty = faultyOf bytes;
-    })
-    (nothingRead (headingRefusal bytes room))
+    }
+
+unfoldable pub nothingRead : ℕ → Heading
+nothingRead refusal = record { refusal = refusal; version = 0; n = 0; t = 0; faulty = 0 }
+
+-- the heading reader's reply
+unfoldable pub headingReply : List ℕ → ℕ → Heading
+headingReply bytes room =
+    cond (eqb (headingRefusal bytes room) 0) (headingOf bytes) (nothingRead (headingRefusal bytes room))
 
 -- n numbers written at the front of a slice, the rest of which stays
 unfoldable pub front : ℕ → (ℕ → ℕ) → List ℕ → List ℕ

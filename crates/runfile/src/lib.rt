@@ -6,8 +6,8 @@ ghost use lib.Dec.{eqb};
 ghost use lib.ListN.{length};
 ghost use Rattle.counting.specs.Count.{build};
 ghost use Rattle.sizes.specs.Sizes.{outside, tooMany, stray, sound, soundZero};
-ghost use Rattle.runfile.specs.File.{number, marked, tOf, headingBytes, rowFrom, headingRow};
-ghost use Rattle.runfile.specs.Reply.{headingRefusal, headingReply, headingWrites, tableRefusal, tableWrites, front};
+ghost use Rattle.runfile.specs.File.{number, marked, nOf, tOf, headingBytes, rowFrom, headingRow};
+ghost use Rattle.runfile.specs.Reply.{headingRefusal, headingOf, headingReply, headingWrites, tableRefusal, tableWrites, front};
 
 // The reply of the heading reader: the refusal's number, or 0 with what the heading says.
 pub struct Heading {
@@ -175,6 +175,20 @@ fn write_rows(bytes: &[u8], at: usize, count: usize, rows: &mut [u64])
     }
 }
 
+// What a heading that is not refused says.
+fn heading_of(bytes: &[u8]) -> Heading
+    requires { ⌜ (9 ≤ length (now bytes)) × (outside (nOf (now bytes)) ≡ false) ⌝ }
+    ensures { λ r. ⌜ r ≡ headingOf (now (bytes .entry)) ⌝ }
+{
+    Heading {
+        refusal: 0,
+        version: number2(bytes, 3) as u16,
+        n: bytes[5],
+        t: t_of(bytes[5], bytes[6]),
+        faulty: number2(bytes, 7) as u16,
+    }
+}
+
 // The heading reader: version, n, t and the faulty set, and the n rows at the front of the slice. Refusals 1, 2, 3, 4, 5, 6,
 // 8, 9, 10.
 pub fn read_heading(bytes: &[u8], rows: &mut [u64]) -> Heading
@@ -191,15 +205,9 @@ pub fn read_heading(bytes: &[u8], rows: &mut [u64]) -> Heading
             faulty: 0,
         };
     }
-    let n = bytes[5];
-    write_rows(bytes, 9, n as usize, rows);
-    Heading {
-        refusal: 0,
-        version: number2(bytes, 3) as u16,
-        n,
-        t: t_of(n, bytes[6]),
-        faulty: number2(bytes, 7) as u16,
-    }
+    let heading = heading_of(bytes);
+    write_rows(bytes, 9, heading.n as usize, rows);
+    heading
 }
 
 // Refusals 4, 8 and 10 of a table, for a slice of so many rows.

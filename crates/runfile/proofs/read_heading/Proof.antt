@@ -1,64 +1,63 @@
+-- `runfile::read_heading` meets its contract: the refusal is made first, and a heading that is not refused has room for its rows in
+-- the bytes and in the slice. Assumes nothing.
+use mathlib.Core.Path.{_≡_, sym, ap, _∙_}
+use Prim.Native.Nat.{ℕ}
+use native.Mathlib.Omega.{arith}
+use lib.ListN.{length}
+use Rattle.sizes.proofs.Laws.{inside-high}
+use Rattle.runfile.specs.declared.Heading.{Heading}
+use Rattle.runfile.specs.File.{nOf, headingBytes, headingRow}
+use Rattle.runfile.specs.Reply.{headingRefusal, nothingRead, headingOf, front}
+use Rattle.runfile.proofs.Laws.{Accepted, heading-accepted, heading-refused, heading-leaves, heading-given, heading-written}
 use borrow.Author.Needs.{needs}
 use Rattle.runfile.proofs.read_heading.Statement.{statement}
 use Rattle.runfile.proofs.read_heading.Tie as tie
-use Rattle.runfile.proofs.read_heading.Reads as reads
-use Rattle.runfile.proofs.read_heading.Lts as lts
-use Rattle.runfile.proofs.heading_refusal.Reads as heading-refusal-reads
-use Rattle.runfile.proofs.number2.Reads as number2-reads
-use Rattle.runfile.proofs.t_of.Reads as t-of-reads
-use Rattle.runfile.proofs.write_rows.Reads as write-rows-reads
 
--- src/lib.rt:184:9
+none : (c : tie.Else1) → headingRefusal (c .before .before .before .before .args .bytes .now) (length (c .before .before .before .before .args .rows .now)) ≡ 0
+none c = sym (c .before .heading-refusal .ensures) ∙ c .if1 .left
+
+-- what the heading passed
+read : (c : tie.Else1) → Accepted (c .before .before .before .before .args .bytes .now) (length (c .before .before .before .before .args .rows .now))
+read c = heading-accepted _ _ (none c)
+
+n-of : (c : tie.After-heading-of) → c .heading-of .result .n ≡ nOf (c .before .before .before .before .before .args .bytes .now)
+unfolding headingOf
+n-of c = ap (λ (h : Heading). h .n) (c .heading-of .ensures)
+
 heading-refusal-requires : tie.Need-heading-refusal-requires
-heading-refusal-requires c κs = ?
+heading-refusal-requires c κs = search needs
 
--- src/lib.rt:186:9
 returns : tie.Need-returns
-returns c = ?
+unfolding nothingRead
+returns c =
+    let e = c .before .heading-refusal .ensures in (
+      ap nothingRead e ∙ sym (heading-refused _ (c .before .before .before .before .args .rows .now) (λ z. c .if1 .taken (e ∙ z))),
+      sym (heading-leaves _ _ (λ z. c .if1 .taken (e ∙ z))),
+    )
 
--- src/lib.rt:188:13
-shared-slice-read-n : tie.Need-shared-slice-read-n
-shared-slice-read-n c = ?
+heading-of-requires : tie.Need-heading-of-requires
+heading-of-requires c κs = (read c .long, read c .inside)
 
--- src/lib.rt:189:26
 cast-write-rows : tie.Need-cast-write-rows
-cast-write-rows c = ?
+cast-write-rows c = omega (arith, n-of (c .before), inside-high _ (read (c .before .before) .inside))
 
--- src/lib.rt:189:5
 write-rows-requires : tie.Need-write-rows-requires
-write-rows-requires c κs = ?
+unfolding headingBytes
+write-rows-requires c κs = omega (arith, n-of (c .before .before), read (c .before .before .before) .whole, read (c .before .before .before) .enough)
 
--- src/lib.rt:192:18
-number2-requires : tie.Need-number2-requires
-number2-requires c κs = ?
-
--- src/lib.rt:192:18
-cast-t13 : tie.Need-cast-t13
-cast-t13 c = ?
-
--- src/lib.rt:194:20
-shared-slice-read-t-of : tie.Need-shared-slice-read-t-of
-shared-slice-read-t-of c = ?
-
--- src/lib.rt:194:12
-t-of-requires : tie.Need-t-of-requires
-t-of-requires c κs = ?
-
--- src/lib.rt:195:17
-number2-requires-2 : tie.Need-number2-requires-2
-number2-requires-2 c κs = ?
-
--- src/lib.rt:195:17
-cast-t17 : tie.Need-cast-t17
-cast-t17 c = ?
-
--- src/lib.rt:180:1
 same-length : tie.Need-same-length
-same-length c = ?
+same-length c = search needs
 
--- src/lib.rt:180:1
 returns-2 : tie.Need-returns-2
-returns-2 c = ?
+unfolding headingRow
+returns-2 c =
+    let bytes = c .before .before .before .before .before .before .before .before .before .before .args .bytes .now in
+    let rows = c .before .before .before .before .before .before .before .before .before .before .args .rows .now in (
+      c .before .before .before .before .before .heading-of .ensures ∙ sym (heading-given bytes rows (none (c .before .before .before .before .before .before))),
+      c .before .before .write-rows .ensures
+          ∙ ap (λ (n : ℕ). front n (headingRow bytes) rows) (n-of (c .before .before .before .before .before))
+          ∙ sym (heading-written bytes rows (none (c .before .before .before .before .before .before))),
+    )
 
 pub read-heading-spec : {M : Type 1} → statement M
 read-heading-spec =
@@ -66,14 +65,8 @@ read-heading-spec =
     (tie.spec
     heading-refusal-requires
     returns
-    shared-slice-read-n
+    heading-of-requires
     cast-write-rows
     write-rows-requires
-    number2-requires
-    cast-t13
-    shared-slice-read-t-of
-    t-of-requires
-    number2-requires-2
-    cast-t17
     same-length
     returns-2)

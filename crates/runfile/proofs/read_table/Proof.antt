@@ -1,35 +1,55 @@
+-- `runfile::read_table` meets its contract: the refusal is made first, and a table that is not refused has its rows in the bytes and
+-- room in the slice. Assumes nothing.
+use mathlib.Core.Path.{_≡_, sym, ap, _∙_}
+use Prim.Native.Nat.{ℕ}
+use native.Mathlib.Omega.{arith}
+use lib.ListN.{length}
+use Rattle.sizes.specs.Sizes.{tableRows}
+use Rattle.sizes.proofs.Laws.{by-n-inside}
+use Rattle.runfile.specs.File.{tableRow}
+use Rattle.runfile.specs.Reply.{tableRefusal, front}
+use Rattle.runfile.proofs.Laws.{TableAccepted, table-accepted, table-leaves, table-written}
 use borrow.Author.Needs.{needs}
 use Rattle.runfile.proofs.read_table.Statement.{statement}
 use Rattle.runfile.proofs.read_table.Tie as tie
-use Rattle.runfile.proofs.read_table.Reads as reads
-use Rattle.runfile.proofs.read_table.Lts as lts
-use Rattle.runfile.proofs.table_refusal.Reads as table-refusal-reads
-use Rattle.runfile.proofs.write_rows.Reads as write-rows-reads
-use Rattle.sizes.proofs.table_rows.Reads as table-rows-reads
 
--- src/lib.rt:221:9
+none : (c : tie.Else1) → tableRefusal (c .before .before .before .before .args .n) (c .before .before .before .before .args .bytes .now) (length (c .before .before .before .before .args .rows .now)) ≡ 0
+none c = sym (c .before .table-refusal .ensures) ∙ c .if1 .left
+
+-- what the table passed
+read : (c : tie.Else1) → TableAccepted (c .before .before .before .before .args .n) (c .before .before .before .before .args .bytes .now) (length (c .before .before .before .before .args .rows .now))
+read c = table-accepted _ _ _ (none c)
+
+rows-of : (c : tie.After-table-rows) → c .table-rows .result ≡ tableRows (c .before .before .before .before .before .args .n)
+rows-of c = c .table-rows .ensures ∙ by-n-inside tableRows _ (read (c .before) .inside)
+
 table-refusal-requires : tie.Need-table-refusal-requires
-table-refusal-requires c κs = ?
+table-refusal-requires c κs = search needs
 
--- src/lib.rt:223:9
 returns : tie.Need-returns
-returns c = ?
+returns c =
+    let e = c .before .table-refusal .ensures in
+    (e, sym (table-leaves _ _ _ (λ z. c .if1 .taken (e ∙ z))))
 
--- src/lib.rt:225:26
 table-rows-requires : tie.Need-table-rows-requires
-table-rows-requires c κs = ?
+table-rows-requires c κs = search needs
 
--- src/lib.rt:225:5
 write-rows-requires : tie.Need-write-rows-requires
-write-rows-requires c κs = ?
+write-rows-requires c κs = omega (arith, rows-of (c .before), read (c .before .before) .exact, read (c .before .before) .enough)
 
--- src/lib.rt:217:1
 same-length : tie.Need-same-length
-same-length c = ?
+same-length c = search needs
 
--- src/lib.rt:217:1
 returns-2 : tie.Need-returns-2
-returns-2 c = ?
+unfolding tableRow
+returns-2 c =
+    let bytes = c .before .before .before .before .before .before .before .before .before .args .bytes .now in
+    let rows = c .before .before .before .before .before .before .before .before .before .args .rows .now in (
+      sym (none (c .before .before .before .before .before)),
+      c .before .before .write-rows .ensures
+          ∙ ap (λ (n : ℕ). front n (tableRow bytes) rows) (rows-of (c .before .before .before .before))
+          ∙ sym (table-written _ bytes rows (none (c .before .before .before .before .before))),
+    )
 
 pub read-table-spec : {M : Type 1} → statement M
 read-table-spec =
