@@ -30,7 +30,9 @@ fn number2(bytes: &[u8], at: usize) -> u64
     requires { ⌜ at + 2 ≤ length (now bytes) ⌝ }
     ensures { λ r. ⌜ (r ≡ number (now (bytes .entry)) at 2) × (r < 65536) ⌝ }
 {
-    wide(bytes[at]) * 256 + wide(bytes[at + 1])
+    let high = wide(bytes[at]);
+    let low = wide(bytes[at + 1]);
+    high * 256 + low
 }
 
 // The number in the 4 bytes from a place on.
@@ -38,7 +40,9 @@ fn number4(bytes: &[u8], at: usize) -> u64
     requires { ⌜ at + 4 ≤ length (now bytes) ⌝ }
     ensures { λ r. ⌜ (r ≡ number (now (bytes .entry)) at 4) × (r < 4294967296) ⌝ }
 {
-    number2(bytes, at) * 65536 + number2(bytes, at + 2)
+    let high = number2(bytes, at);
+    let low = number2(bytes, at + 2);
+    high * 65536 + low
 }
 
 // The number in the 8 bytes from a place on.
@@ -46,7 +50,9 @@ fn number8(bytes: &[u8], at: usize) -> u64
     requires { ⌜ at + 8 ≤ length (now bytes) ⌝ }
     ensures { λ r. ⌜ r ≡ number (now (bytes .entry)) at 8 ⌝ }
 {
-    number4(bytes, at) * 4294967296 + number4(bytes, at + 4)
+    let high = number4(bytes, at);
+    let low = number4(bytes, at + 4);
+    high * 4294967296 + low
 }
 
 // Do the bytes begin with the mark?
@@ -232,9 +238,9 @@ pub fn read_table(n: u8, bytes: &[u8], rows: &mut [u64]) -> u8
     ensures { λ r. ⌜ r ≡ tableRefusal n (now (bytes .entry)) (length (now (rows .entry))) ⌝ }
     ensures { λ r. ⌜ now (rows .exit) ≡ tableWrites n (now (bytes .entry)) (now (rows .entry)) ⌝ }
 {
-    let refusal = table_refusal(n, bytes, rows.len());
-    if refusal != 0 {
-        return refusal;
+    let refused = table_refusal(n, bytes, rows.len());
+    if refused != 0 {
+        return refused;
     }
     write_rows(bytes, 0, sizes::table_rows(n), rows);
     0

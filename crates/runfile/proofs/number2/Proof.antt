@@ -15,9 +15,6 @@ shared-slice-read-wide c = search needs
 wide-requires : tie.Need-wide-requires
 wide-requires c κs = search needs
 
-mul-result : tie.Need-mul-result
-mul-result c = search needs
-
 add-wide : tie.Need-add-wide
 add-wide c = search needs
 
@@ -27,12 +24,15 @@ shared-slice-read-wide-2 c = search needs
 wide-requires-2 : tie.Need-wide-requires-2
 wide-requires-2 c κs = search needs
 
+mul-result : tie.Need-mul-result
+mul-result c = search needs
+
 add-result : tie.Need-add-result
 add-result c = search needs
 
 returns : tie.Need-returns
 unfolding number
-returns c =
+returns c = 
     let bytes = c .before .before .before .before .before .args .bytes .now in
     let at = c .before .before .before .before .before .args .at in
     (omega (arith, c .before .before .wide .ensures .0, c .wide2 .ensures .0, ap (λ (m : ℕ). getD bytes m 0) (add-zero at)), search needs)
@@ -43,9 +43,9 @@ number2-spec =
     (tie.spec
     shared-slice-read-wide
     wide-requires
-    mul-result
     add-wide
     shared-slice-read-wide-2
     wide-requires-2
+    mul-result
     add-result
     returns)

@@ -9,14 +9,14 @@ use Rattle.runfile.proofs.number4.Tie as tie
 number2-requires : tie.Need-number2-requires
 number2-requires c κs = search needs
 
-mul-result : tie.Need-mul-result
-mul-result c = search needs
-
 add-number2 : tie.Need-add-number2
 add-number2 c = search needs
 
 number2-requires-2 : tie.Need-number2-requires-2
 number2-requires-2 c κs = search needs
+
+mul-result : tie.Need-mul-result
+mul-result c = search needs
 
 add-result : tie.Need-add-result
 add-result c = search needs
@@ -27,4 +27,4 @@ returns c = (omega (arith, c .before .number2 .ensures .0, c .number22 .ensures 
 pub number4-spec : {M : Type 1} → statement M
 number4-spec =
     tie.close
-    (tie.spec number2-requires mul-result add-number2 number2-requires-2 add-result returns)
+    (tie.spec number2-requires add-number2 number2-requires-2 mul-result add-result returns)

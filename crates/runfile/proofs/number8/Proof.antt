@@ -9,14 +9,14 @@ use Rattle.runfile.proofs.number8.Tie as tie
 number4-requires : tie.Need-number4-requires
 number4-requires c κs = search needs
 
-mul-result : tie.Need-mul-result
-mul-result c = search needs
-
 add-number4 : tie.Need-add-number4
 add-number4 c = search needs
 
 number4-requires-2 : tie.Need-number4-requires-2
 number4-requires-2 c κs = search needs
+
+mul-result : tie.Need-mul-result
+mul-result c = search needs
 
 add-result : tie.Need-add-result
 add-result c = search needs
@@ -27,4 +27,4 @@ returns c = omega (arith, c .before .number4 .ensures .0, c .number42 .ensures .
 pub number8-spec : {M : Type 1} → statement M
 number8-spec =
     tie.close
-    (tie.spec number4-requires mul-result add-number4 number4-requires-2 add-result returns)
+    (tie.spec number4-requires add-number4 number4-requires-2 mul-result add-result returns)

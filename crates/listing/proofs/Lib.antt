@@ -1,0 +1,4 @@
+-- What belongs to no one function.
+pub mod Decimal
+pub mod Placed
+pub mod Lines
