@@ -24,11 +24,12 @@ pub placed-length : (xs : List ℕ) (at : ℕ) (s : List ℕ) → at + length s 
 unfolding placed
 placed-length xs at s l =
     length-append (take at xs) (s ++ drop (at + length s) xs)
-    ∙ omega
-    (arith,
-    length-take-le at xs (omega arith),
-    length-append s (drop (at + length s) xs),
-    length-drop (at + length s) xs)
+    ∙ omega (
+      arith,
+      length-take-le at xs (omega arith),
+      length-append s (drop (at + length s) xs),
+      length-drop (at + length s) xs,
+    )
 
 -- one text, and another behind it
 pub placed-append : (xs : List ℕ) (at : ℕ) (s t : List ℕ) → at + length (s ++ t) ≤ length xs →
@@ -43,13 +44,13 @@ placed-append xs at s t l =
     let short : at ≤ length xs = omega arith in
     let long : length (p ++ s) ≡ at + length s = length-append p s ∙ omega (arith, length-take-le at xs short) in
     let front : take (at + length s) (p ++ (s ++ q)) ≡ p ++ s =
-        ap (take (at + length s)) whole ∙ take-at (p ++ s) q (at + length s) long in
+    ap (take (at + length s)) whole ∙ take-at (p ++ s) q (at + length s) long in
     let sum : at + length s + length t ≡ at + length (s ++ t) = omega arith in
     let back : drop (at + length s + length t) (p ++ (s ++ q)) ≡ r =
-        sym (drop-drop (length t) (at + length s) (p ++ (s ++ q)))
-        ∙ ap (drop (length t)) (ap (drop (at + length s)) whole ∙ drop-at (p ++ s) q (at + length s) long)
-        ∙ drop-drop (length t) (at + length s) xs
-        ∙ ap (λ (m : ℕ). drop m xs) sum in
+    sym (drop-drop (length t) (at + length s) (p ++ (s ++ q)))
+    ∙ ap (drop (length t)) (ap (drop (at + length s)) whole ∙ drop-at (p ++ s) q (at + length s) long)
+    ∙ drop-drop (length t) (at + length s) xs
+    ∙ ap (λ (m : ℕ). drop m xs) sum in
     ap₂ (λ (f b : List ℕ). f ++ (t ++ b)) front back
     ∙ append-assoc p s (t ++ r)
     ∙ ap (λ (ys : List ℕ). p ++ ys) (sym (append-assoc s t r))
@@ -66,7 +67,6 @@ placed-next xs ys at s b k e h l =
     let long : length ys ≡ length xs = ap length e ∙ placed-length xs at s (omega arith) in
     placed-one ys k b (omega arith) ∙ placed-then xs ys at s (b ∷ []) k e h (omega (arith, length-append s (b ∷ [])))
 
-
 -- a slice xs has become ys by writing a text from behind: before `end` nothing is changed, and s is what is left to be written
 pub record Behind (xs ys s text : List ℕ) (end stop : ℕ) : Type 0 where
   pub long : length ys ≡ length xs
@@ -80,16 +80,16 @@ behind-turn xs ys s text b k end stop e l w =
     let same : take (suc k) ys ≡ take (suc k) xs = rw e at (w .same) in
     let rest : s ++ (b ∷ []) ++ drop (suc k) ys ≡ text ++ drop stop xs = rw e at (w .rest) in
     let byte : drop k (set ys k b) ≡ b ∷ drop (suc k) ys =
-        drop-cons (set ys k b) k 0 (lt-length-set ys k b l)
-        ∙ ap₂ (λ (x : ℕ) (zs : List ℕ). x ∷ zs) (getD-set-same ys k b 0 l) (drop-set-lt (suc k) ys k b (le-refl _)) in
+    drop-cons (set ys k b) k 0 (lt-length-set ys k b l)
+    ∙ ap₂ (λ (x : ℕ) (zs : List ℕ). x ∷ zs) (getD-set-same ys k b 0 l) (drop-set-lt (suc k) ys k b (le-refl _)) in
     record {
-    long = length-set ys k b ∙ w .long;
-    same =
-        take-set-le k ys k b (le-refl _)
-        ∙ sym (take-take k (suc k) ys (omega arith))
-        ∙ ap (take k) same
-        ∙ take-take k (suc k) xs (omega arith);
-    rest = ap (λ (zs : List ℕ). s ++ zs) byte ∙ sym (append-snoc s b (drop (suc k) ys)) ∙ rest
+      long = length-set ys k b ∙ w .long;
+      same =
+          take-set-le k ys k b (le-refl _)
+          ∙ sym (take-take k (suc k) ys (omega arith))
+          ∙ ap (take k) same
+          ∙ take-take k (suc k) xs (omega arith);
+      rest = ap (λ (zs : List ℕ). s ++ zs) byte ∙ sym (append-snoc s b (drop (suc k) ys)) ∙ rest;
     }
 
 -- once nothing is left, the text stands at its place

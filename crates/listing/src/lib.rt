@@ -28,22 +28,34 @@ fn measured(word: &[u8], numbers: &[u64], room: usize) -> Written
     ensures { λ r. ⌜ r ≡ lineReply (now (word .entry)) (now (numbers .entry)) room ⌝ }
 {
     if room < word.len() {
-        return Written { refusal: 10, size: 0 };
+        return Written {
+            refusal: 10,
+            size: 0,
+        };
     }
     let mut size = word.len();
     let mut i: usize = 0;
     while i < numbers.len() {
         let more = 1 + digits(numbers[i]);
         if room - size < more {
-            return Written { refusal: 10, size: 0 };
+            return Written {
+                refusal: 10,
+                size: 0,
+            };
         }
         size += more;
         i += 1;
     }
     if room <= size {
-        return Written { refusal: 10, size: 0 };
+        return Written {
+            refusal: 10,
+            size: 0,
+        };
     }
-    Written { refusal: 0, size: size + 1 }
+    Written {
+        refusal: 0,
+        size: size + 1,
+    }
 }
 
 // Writes the word at the front of the slice.

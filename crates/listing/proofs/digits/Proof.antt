@@ -29,7 +29,7 @@ loop-again : tie.Need-loop-again Inv-loop μ-loop
 loop-again c = omega (arith, decimal-longer (c .before .loop .left) (c .loop-test .taken))
 
 returns : tie.Need-returns Inv-loop μ-loop
-returns c = 
+returns c =
     let small = ap length (decimal-small (c .before .loop .left) (c .loop-test .left)) in
     omega (arith, decimal-20 (c .before .before .args .n) (c .before .before .fits .n .fits))
 

@@ -25,14 +25,15 @@ shorter c =
     let left = c .loop .left in
     let end = c .loop .end in
     let out = c .loop .out in
-    omega
-    (arith,
-    c .loop .inv .1 .long,
-    ap length (c .loop .inv .1 .rest),
-    length-append (decimal left) (drop end out),
-    length-drop end out,
-    length-append (decimal (f .n)) (drop (f .at + f .size) (f .out .now)),
-    length-drop (f .at + f .size) (f .out .now))
+    omega (
+      arith,
+      c .loop .inv .1 .long,
+      ap length (c .loop .inv .1 .rest),
+      length-append (decimal left) (drop end out),
+      length-drop end out,
+      length-append (decimal (f .n)) (drop (f .at + f .size) (f .out .now)),
+      length-drop (f .at + f .size) (f .out .now),
+    )
 
 add-end : tie.Need-add-end Inv-loop μ-loop
 add-end c = search needs
@@ -56,15 +57,16 @@ loop-less : tie.Need-loop-less Inv-loop μ-loop
 loop-less c = search needs
 
 loop-again : tie.Need-loop-again Inv-loop μ-loop
-loop-again c = 
+loop-again c =
     let left = c .before .loop .left in
     let end = c .before .loop .end in
     let longer = decimal-longer left (c .loop-test .taken) in
-    let w = c .before .loop .inv .1 in
-    (omega arith,
-    behind-turn _ _ _ _ _ (end - 1) end _ (omega (arith, decimal-some left))
-    (omega (arith, decimal-some left, shorter (c .before)))
-    (rw (decimal-large left (c .loop-test .taken)) at w))
+    let w = c .before .loop .inv .1 in (
+      omega arith,
+      behind-turn _ _ _ _ _ (end - 1) end _ (omega (arith, decimal-some left))
+          (omega (arith, decimal-some left, shorter (c .before)))
+          (rw (decimal-large left (c .loop-test .taken)) at w),
+    )
 
 cast-out-2 : tie.Need-cast-out-2 Inv-loop μ-loop
 cast-out-2 c = search needs
@@ -82,13 +84,13 @@ same-length : tie.Need-same-length Inv-loop μ-loop
 same-length c = length-set (c .before .loop .out) (c .before .loop .end - 1) (48 + c .before .loop .left) ∙ c .before .loop .inv .1 .long
 
 returns : tie.Need-returns Inv-loop μ-loop
-returns c = 
+returns c =
     let left = c .before .loop .left in
     let end = c .before .loop .end in
     let f = c .before .before .args in
     let small = decimal-small left (c .loop-test .left) in
     let w : Behind (f .out .now) (c .before .loop .out) ([] ++ ((48 + left) ∷ [])) (decimal (f .n)) end (f .at + length (decimal (f .n))) =
-        rw (small, c .before .before .pre .0) at (c .before .loop .inv .1) in
+    rw (small, c .before .before .pre .0) at (c .before .loop .inv .1) in
     let last : end - 1 ≡ f .at = omega (arith, ap length small) in
     ap (λ (k : ℕ). set (c .before .loop .out) k (48 + left)) last
     ∙ behind-done (f .out .now) _ (decimal (f .n)) (f .at)

@@ -1,42 +1,53 @@
+-- `listing::put_number` meets its contract: the space is a text of one byte, and the digits stand behind it. Assumes nothing.
+use mathlib.Core.Path.{_≡_, refl, _∙_}
+use mathlib.Core.List.{[], _∷_}
+use Prim.Native.Nat.{_+_}
+use native.Mathlib.Omega.{arith}
+use lib.ListN.{set, length-set}
+use Rattle.listing.specs.Line.{decimal, field, placed}
+use Rattle.listing.proofs.Placed.{placed-one, placed-then}
 use borrow.Author.Needs.{needs}
 use Rattle.listing.proofs.put_number.Statement.{statement}
 use Rattle.listing.proofs.put_number.Tie as tie
-use Rattle.listing.proofs.put_number.Reads as reads
-use Rattle.listing.proofs.put_number.Lts as lts
-use Rattle.listing.proofs.digits.Reads as digits-reads
-use Rattle.listing.proofs.put_digits.Reads as put-digits-reads
 
--- src/lib.rt:82:9
 digits-requires : tie.Need-digits-requires
 digits-requires c κs = search needs
 
--- src/lib.rt:83:5
 slice-write-out : tie.Need-slice-write-out
-slice-write-out c = search needs
+unfolding field
+slice-write-out c = omega (arith, c .before .before .pre)
 
--- src/lib.rt:84:21
 add-put-digits : tie.Need-add-put-digits
-add-put-digits c = search needs
+unfolding field
+add-put-digits c = omega (arith, c .before .before .before .pre)
 
--- src/lib.rt:84:5
 put-digits-requires : tie.Need-put-digits-requires
-put-digits-requires c κs = search needs
+unfolding field
+put-digits-requires c κs = (
+  c .before .digits .ensures .0,
+  omega (arith, c .before .before .before .pre, c .before .digits .ensures .0, length-set (c .before .before .before .args .out .now) (c .before .before .before .args .at) 32),
+)
 
--- src/lib.rt:85:5
 add-result : tie.Need-add-result
-add-result c = search needs
+unfolding field
+add-result c = omega (arith, c .before .before .before .before .before .before .pre)
 
--- src/lib.rt:85:5
 add-result-2 : tie.Need-add-result-2
-add-result-2 c = search needs
+unfolding field
+add-result-2 c = omega (arith, c .before .before .before .before .before .before .pre, c .before .before .before .before .digits .ensures .0)
 
--- src/lib.rt:77:1
 same-length : tie.Need-same-length
-same-length c = search needs
+same-length c = c .before .before .put-digits .kept .0 ∙ length-set (c .before .before .before .before .before .before .args .out .now) (c .before .before .before .before .before .before .args .at) 32
 
--- src/lib.rt:77:1
 returns : tie.Need-returns
-returns c = search needs
+unfolding field
+returns c =
+    let f = c .before .before .before .before .before .before .args in (
+      omega (arith, c .before .before .before .before .digits .ensures .0),
+      c .before .before .put-digits .ensures
+          ∙ placed-then (f .out .now) (set (f .out .now) (f .at) 32) (f .at) (32 ∷ []) (decimal (f .n)) (f .at + 1)
+          (placed-one (f .out .now) (f .at) 32 (omega (arith, c .before .before .before .before .before .before .pre))) refl (c .before .before .before .before .before .before .pre),
+    )
 
 pub put-number-spec : {M : Type 1} → statement M
 put-number-spec =

@@ -1,51 +1,83 @@
+-- `listing::put_numbers` meets its contract: after i turns the first i numbers stand at the place, and `end` is behind them. What is left of the
+-- numbers falls. Assumes nothing.
+use mathlib.Core.Path.{_≡_, ap, sym, _∙_}
+use Prim.Native.Nat.{ℕ, _+_, _≤_, _<_, _-_}
+use native.Mathlib.Omega.{arith}
+use lib.ListN.{length, getD}
+use Rattle.listing.specs.Line.{field, fields, placed}
+use Rattle.listing.proofs.Lines.{fields-turn, fields-longer, fields-more}
+use Rattle.listing.proofs.Placed.{placed-none, placed-then, placed-length}
 use borrow.Author.Needs.{needs}
 use Rattle.listing.proofs.put_numbers.Statement.{statement}
 use Rattle.listing.proofs.put_numbers.Tie as tie
-use Rattle.listing.proofs.put_numbers.Reads as reads
-use Rattle.listing.proofs.put_numbers.Lts as lts
-use Rattle.listing.proofs.put_number.Reads as put-number-reads
 
 abbrev Inv-loop : tie.InvT-loop
-Inv-loop out₀ at numbers end₀ i₀ out end i = ?
+Inv-loop out₀ at numbers end₀ i₀ out end i = (i ≤ length numbers) × ((end ≡ at + length (fields numbers i)) × (out ≡ placed out₀ at (fields numbers i)))
 
 abbrev μ-loop : tie.MeasureT-loop
-μ-loop out₀ at numbers end₀ i₀ out end i = ?
+μ-loop out₀ at numbers end₀ i₀ out end i = length numbers - i
 
--- src/lib.rt:96:5
+long-of : (c : tie.At-loop Inv-loop μ-loop) → length (c .loop .out) ≡ length (c .before .before .before .args .out .now)
+long-of c =
+    let f = c .before .before .before .args in
+    let numbers = f .numbers .now in
+    ap length (c .loop .inv .1 .1)
+    ∙ placed-length (f .out .now) (f .at) (fields numbers (c .loop .i))
+    (omega (arith, fields-more numbers (c .loop .i) (length numbers) (c .loop .inv .0)))
+
+-- there is room for one number more
+room-of : (c : tie.In-loop Inv-loop μ-loop) →
+    c .before .before .before .before .args .at + length (fields (c .before .before .before .before .args .numbers .now) (c .before .loop .i + 1)) ≤ length (c .before .before .before .before .args .out .now)
+room-of c =
+    let numbers = c .before .before .before .before .args .numbers .now in
+    omega (arith, fields-more numbers (c .before .loop .i + 1) (length numbers) (search needs))
+
 loop-holds : tie.Need-loop-holds Inv-loop μ-loop
-loop-holds c = search needs
+unfolding fields
+loop-holds c = (search needs, (search needs, placed-none _ _))
 
--- src/lib.rt:97:36
 mul-put-number : tie.Need-mul-put-number Inv-loop μ-loop
 mul-put-number c = search needs
 
--- src/lib.rt:97:36
 shared-slice-read-put-number : tie.Need-shared-slice-read-put-number Inv-loop μ-loop
 shared-slice-read-put-number c = search needs
 
--- src/lib.rt:97:9
 put-number-requires : tie.Need-put-number-requires Inv-loop μ-loop
-put-number-requires c κs = search needs
+put-number-requires c κs = omega (arith, room-of (c .before .before), fields-longer (c .before .before .before .before .before .before .args .numbers .now) (c .before .before .before .loop .i), long-of (c .before .before .before))
 
--- src/lib.rt:98:9
 add-i : tie.Need-add-i Inv-loop μ-loop
 add-i c = search needs
 
--- src/lib.rt:96:5
 loop-less : tie.Need-loop-less Inv-loop μ-loop
 loop-less c = search needs
 
--- src/lib.rt:96:5
 loop-again : tie.Need-loop-again Inv-loop μ-loop
-loop-again c = search needs
+loop-again c =
+    let f = c .before .before .before .before .before .before .before .before .before .args in
+    let numbers = f .numbers .now in
+    let i = c .before .before .before .before .before .before .loop .i in
+    let longer = fields-longer numbers i in
+    let turn = fields-turn numbers i in (
+      search needs,
+      (
+        omega (arith, c .before .before .put-number .ensures .0),
+        c .before .before .put-number .ensures .1
+            ∙ placed-then (f .out .now) (c .before .before .before .before .before .before .loop .out) (f .at) (fields numbers i) (field (getD numbers i 0)) (c .before .before .before .before .before .before .loop .end) (c .before .before .before .before .before .before .loop .inv .1 .1)
+            (c .before .before .before .before .before .before .loop .inv .1 .0) (omega (arith, room-of (c .before .before .before .before .before), ap length turn))
+            ∙ ap (placed (f .out .now) (f .at)) (sym turn),
+      ),
+    )
 
--- src/lib.rt:89:1
 same-length : tie.Need-same-length Inv-loop μ-loop
-same-length c = search needs
+same-length c = long-of (c .before)
 
--- src/lib.rt:89:1
 returns : tie.Need-returns Inv-loop μ-loop
-returns c = search needs
+returns c =
+    let f = c .before .before .before .before .args in
+    let whole : c .before .loop .i ≡ length (f .numbers .now) = omega arith in (
+      c .before .loop .inv .1 .0 ∙ ap (λ (k : ℕ). f .at + length (fields (f .numbers .now) k)) whole,
+      c .before .loop .inv .1 .1 ∙ ap (λ (k : ℕ). placed (f .out .now) (f .at) (fields (f .numbers .now) k)) whole,
+    )
 
 pub put-numbers-spec : {M : Type 1} → statement M
 put-numbers-spec =

@@ -42,22 +42,23 @@ loop-less : tie.Need-loop-less Inv-loop μ-loop
 loop-less c = search needs
 
 loop-again : tie.Need-loop-again Inv-loop μ-loop
-loop-again c = 
+loop-again c =
     let f = c .before .before .before .args in
     let i = c .before .before .loop .i in
     let l : i < length (f .word .now) = search needs in
     let more : take (i + 1) (f .word .now) ≡ take i (f .word .now) ++ (getD (f .word .now) i 0 ∷ []) =
-        ap (λ (m : ℕ). take m (f .word .now)) (add-one i) ∙ take-suc (f .word .now) i 0 l in
-    (search needs,
-    placed-next (f .out .now) (c .before .before .loop .out) 0 (take i (f .word .now)) (getD (f .word .now) i 0) i (c .before .before .loop .inv .1)
-    (omega (arith, length-take-le i (f .word .now) (search needs))) (omega arith)
-    ∙ ap (placed (f .out .now) 0) (sym more))
+    ap (λ (m : ℕ). take m (f .word .now)) (add-one i) ∙ take-suc (f .word .now) i 0 l in (
+      search needs,
+      placed-next (f .out .now) (c .before .before .loop .out) 0 (take i (f .word .now)) (getD (f .word .now) i 0) i (c .before .before .loop .inv .1)
+          (omega (arith, length-take-le i (f .word .now) (search needs))) (omega arith)
+          ∙ ap (placed (f .out .now) 0) (sym more),
+    )
 
 same-length : tie.Need-same-length Inv-loop μ-loop
 same-length c = long-of (c .before)
 
 returns : tie.Need-returns Inv-loop μ-loop
-returns c = 
+returns c =
     let f = c .before .before .args in
     let whole : c .before .loop .i ≡ length (f .word .now) = omega arith in
     c .before .loop .inv .1
