@@ -2,3 +2,4 @@
 pub mod Decimal
 pub mod Placed
 pub mod Lines
+pub mod Laws

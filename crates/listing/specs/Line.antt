@@ -47,3 +47,8 @@ lineReply word numbers room =
 unfoldable pub lineWrites : List ℕ → List ℕ → List ℕ → List ℕ
 lineWrites word numbers slice =
     cond (tooShort word numbers (length slice)) slice (placed slice 0 (lineOf word numbers))
+
+-- the number that a text of decimal digits stands for, behind a number already read
+unfoldable pub readOn : ℕ → List ℕ → ℕ
+readOn before [] = before
+readOn before (byte ∷ text) = readOn (before * 10 + (byte - 48)) text
