@@ -3,17 +3,16 @@
 -- Assumes nothing.
 use mathlib.Core.Path.{_≡_, refl, sym, ap, _∙_}
 use mathlib.Core.Bool.{Bool, true, false, not, cond, _&&_}
-use mathlib.Core.List.{List, _++_}
-use Prim.Native.Nat.{ℕ, _+_, _*_, _≤_, _<_}
+use mathlib.Core.List.{List}
+use Prim.Native.Nat.{ℕ, _*_, _≤_, _<_}
 use native.Mathlib.Decide.{ℕ-discrete}
 use native.Mathlib.Omega.{arith}
-use lib.Dec.{eqb, leb, ltb}
+use lib.Dec.{eqb, leb}
 use lib.ListN.{length, take, drop}
 use lib.Seq.{take-at}
 use borrow.Author.Tests.{leb-true, ltb-false, eqb-true, eq-eqb, ne-eqb}
 use Rattle.counting.specs.Count.{any, build}
-use Rattle.counting.specs.Refuse.{firstOf}
-use Rattle.counting.proofs.Bools.{not-false, cond-true, cond-false, either}
+use Rattle.counting.proofs.Bools.{not-false, cond-true, cond-false}
 use Rattle.counting.proofs.Build.{length-build}
 use Rattle.counting.proofs.Count.{any-none}
 use Rattle.counting.proofs.Refuse.{accepted}

@@ -1,6 +1,6 @@
 -- Numbers of several bytes: one in a + b bytes is the one in the first a, times 256 to the b, and the one in the last b.
 -- Assumes nothing.
-use mathlib.Core.Path.{_≡_, refl, sym, ap, ap₂, _∙_}
+use mathlib.Core.Path.{_≡_, sym, ap, _∙_}
 use mathlib.Core.List.{List}
 use Prim.Native.Nat.{ℕ, zero, suc, _+_, _*_, _^_}
 use native.Mathlib.Nat.{add-zero, add-suc, add-assoc, mul-assoc, pow-suc}

@@ -1,7 +1,7 @@
 -- The whole replies of the readers, and the last contents of the lent slice. A refused read writes nothing and gives 0 for all
 -- but the refusal's number.
 use Prim.Native.Nat.{ℕ, _*_}
-use mathlib.Core.Bool.{Bool, cond, not, _&&_}
+use mathlib.Core.Bool.{cond, not, _&&_}
 use mathlib.Core.List.{List, [], _∷_, _++_}
 use lib.Dec.{eqb, ltb}
 use lib.ListN.{length, drop}

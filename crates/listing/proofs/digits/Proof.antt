@@ -1,7 +1,7 @@
 -- `listing::digits` meets its contract: the digits counted and those of the number left are one more than those of n. The number left
 -- falls. Assumes nothing.
-use mathlib.Core.Path.{_≡_, ap, sym, _∙_}
-use Prim.Native.Nat.{ℕ, _≤_, _+_}
+use mathlib.Core.Path.{_≡_, ap}
+use Prim.Native.Nat.{_+_}
 use native.Mathlib.Omega.{arith}
 use lib.ListN.{length}
 use Rattle.listing.specs.Line.{decimal}

@@ -1,7 +1,7 @@
 -- `listing::measured` meets its contract: after i turns `size` is the length of the word and the first i numbers, and is within the room.
 -- A line whose part is longer than the room is longer too. What is left of the numbers falls. Assumes nothing.
-use mathlib.Core.Path.{_≡_, ap, sym, _∙_}
-use Prim.Native.Nat.{ℕ, _+_, _≤_, _<_, _-_}
+use mathlib.Core.Path.{_≡_, ap, _∙_}
+use Prim.Native.Nat.{ℕ, _+_, _≤_, _-_}
 use native.Mathlib.Omega.{arith}
 use lib.ListN.{length}
 use Rattle.listing.specs.Line.{field, fields, lineOf}

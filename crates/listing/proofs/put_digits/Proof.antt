@@ -1,11 +1,11 @@
 -- `listing::put_digits` meets its contract: the digits of the number left, with what stands behind `end`, are the digits of n with what stood
 -- behind them; before `end` nothing is written yet. The number left falls. Assumes nothing.
-use mathlib.Core.Path.{_≡_, refl, ap, sym, _∙_}
-use mathlib.Core.List.{List, [], _∷_, _++_}
+use mathlib.Core.Path.{_≡_, refl, ap, _∙_}
+use mathlib.Core.List.{[], _∷_, _++_}
 use Prim.Native.Nat.{ℕ, _≤_, _+_, _-_}
 use native.Mathlib.Omega.{arith}
 use lib.ListN.{length, drop, set, length-set, length-append, length-drop}
-use Rattle.listing.specs.Line.{decimal, placed}
+use Rattle.listing.specs.Line.{decimal}
 use Rattle.listing.proofs.Decimal.{decimal-small, decimal-longer, decimal-large, decimal-some}
 use Rattle.listing.proofs.Placed.{Behind, behind-turn, behind-done}
 use borrow.Author.Needs.{needs}
@@ -81,7 +81,7 @@ slice-write-out-2 : tie.Need-slice-write-out-2 Inv-loop μ-loop
 slice-write-out-2 c = omega (arith, decimal-some (c .before .loop .left), shorter (c .before))
 
 same-length : tie.Need-same-length Inv-loop μ-loop
-same-length c = length-set (c .before .loop .out) (c .before .loop .end - 1) (48 + c .before .loop .left) ∙ c .before .loop .inv .1 .long
+same-length c = length-set (c .before .loop .out) _ _ ∙ c .before .loop .inv .1 .long
 
 returns : tie.Need-returns Inv-loop μ-loop
 returns c =

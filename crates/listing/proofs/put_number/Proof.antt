@@ -1,10 +1,10 @@
 -- `listing::put_number` meets its contract: the space is a text of one byte, and the digits stand behind it. Assumes nothing.
-use mathlib.Core.Path.{_≡_, refl, _∙_}
+use mathlib.Core.Path.{refl, _∙_}
 use mathlib.Core.List.{[], _∷_}
 use Prim.Native.Nat.{_+_}
 use native.Mathlib.Omega.{arith}
 use lib.ListN.{set, length-set}
-use Rattle.listing.specs.Line.{decimal, field, placed}
+use Rattle.listing.specs.Line.{decimal, field}
 use Rattle.listing.proofs.Placed.{placed-one, placed-then}
 use borrow.Author.Needs.{needs}
 use Rattle.listing.proofs.put_number.Statement.{statement}
@@ -37,7 +37,7 @@ unfolding field
 add-result-2 c = omega (arith, c .before .before .before .before .before .before .pre, c .before .before .before .before .digits .ensures .0)
 
 same-length : tie.Need-same-length
-same-length c = c .before .before .put-digits .kept .0 ∙ length-set (c .before .before .before .before .before .before .args .out .now) (c .before .before .before .before .before .before .args .at) 32
+same-length c = c .before .before .put-digits .kept .0 ∙ length-set (c .before .before .before .before .before .before .args .out .now) _ _
 
 returns : tie.Need-returns
 unfolding field

@@ -1,7 +1,7 @@
 -- `listing::put_numbers` meets its contract: after i turns the first i numbers stand at the place, and `end` is behind them. What is left of the
 -- numbers falls. Assumes nothing.
 use mathlib.Core.Path.{_≡_, ap, sym, _∙_}
-use Prim.Native.Nat.{ℕ, _+_, _≤_, _<_, _-_}
+use Prim.Native.Nat.{ℕ, _+_, _≤_, _-_}
 use native.Mathlib.Omega.{arith}
 use lib.ListN.{length, getD}
 use Rattle.listing.specs.Line.{field, fields, placed}

@@ -1,7 +1,7 @@
 -- `listing::put_word` meets its contract: after i turns the first i bytes of the word stand at the front of the slice, whose length stays.
 -- What is left of the word falls. Assumes nothing.
 use mathlib.Core.Path.{_≡_, ap, sym, _∙_}
-use mathlib.Core.List.{List, [], _∷_, _++_}
+use mathlib.Core.List.{[], _∷_, _++_}
 use Prim.Native.Nat.{ℕ, _+_, _≤_, _<_, _-_}
 use native.Mathlib.Omega.{arith}
 use native.Mathlib.Numerals.{add-one}

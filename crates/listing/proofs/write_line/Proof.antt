@@ -1,8 +1,8 @@
 -- `listing::write_line` meets its contract: the reply is made first; a slice that is long enough takes the word, the numbers behind it and the
 -- newline behind them, which together are the line. Assumes nothing.
-use mathlib.Core.Path.{_≡_, refl, ap, sym, _∙_}
-use mathlib.Core.List.{List, _++_}
-use Prim.Native.Nat.{ℕ, _+_, _≤_}
+use mathlib.Core.Path.{_≡_, ap, sym, _∙_}
+use mathlib.Core.List.{_++_}
+use Prim.Native.Nat.{_+_, _≤_}
 use native.Mathlib.Omega.{arith}
 use lib.ListN.{length, length-set, length-append}
 use Rattle.listing.specs.declared.Written.{Written}
@@ -71,7 +71,7 @@ slice-write-out : tie.Need-slice-write-out
 slice-write-out c = omega (arith, fits-of (c .before .before .before .before .before .before .before .before), c .before .before .put-numbers .ensures .0, long-of c)
 
 same-length : tie.Need-same-length
-same-length c = length-set (c .before .before .put-numbers .last .0) (c .before .before .put-numbers .result) 10 ∙ long-of c
+same-length c = length-set (c .before .before .put-numbers .last .0) _ _ ∙ long-of c
 
 returns-2 : tie.Need-returns-2
 unfolding lineOf

@@ -1,5 +1,4 @@
 -- `runfile::heading_of` meets its contract: each number is read where the definition has it. Assumes nothing.
-use mathlib.Core.Path.{_≡_, refl}
 use Rattle.runfile.specs.File.{versionOf, nOf, tByte, faultyOf}
 use Rattle.runfile.specs.Reply.{headingOf}
 use borrow.Author.Needs.{needs}

@@ -1,5 +1,4 @@
 -- `runfile::is_marked` meets its contract: it makes the three tests in their order. Assumes nothing.
-use mathlib.Core.Path.{_≡_, refl, sym, _∙_}
 use borrow.Author.Tests.{eq-eqb, ne-eqb}
 use Rattle.runfile.specs.File.{marked}
 use borrow.Author.Needs.{needs}

@@ -1,5 +1,4 @@
 -- `runfile::is_sound_zero` meets its contract: it makes the two tests in their order. Assumes nothing.
-use mathlib.Core.Path.{_≡_, refl, sym}
 use borrow.Author.Tests.{eq-eqb, ne-eqb}
 use Rattle.counting.specs.Sets.{member}
 use Rattle.sizes.specs.Sizes.{sound}

@@ -1,9 +1,6 @@
 -- `runfile::is_too_many` meets its contract: 255 passes, in the middle arm both sides make the same test, and a larger number is
 -- above a third of 13. Assumes nothing.
-use mathlib.Core.Path.{_≡_, refl, sym, ap, _∙_}
-use mathlib.Core.Bool.{false}
 use native.Mathlib.Omega.{arith}
-use lib.Dec.{eqb}
 use borrow.Author.Tests.{eq-eqb, ne-eqb}
 use Rattle.sizes.specs.Sizes.{tooMany}
 use Rattle.sizes.proofs.Laws.{inside-high, not-tolerated}

@@ -1,7 +1,7 @@
 -- `runfile::write_rows` meets its contract: after k turns the first k rows stand at the front of the slice, whose length stays. What is
 -- left of the count falls. Assumes nothing.
-use mathlib.Core.Path.{_≡_, ap, sym, _∙_}
-use Prim.Native.Nat.{ℕ, _≤_, _-_}
+use mathlib.Core.Path.{_≡_, ap, _∙_}
+use Prim.Native.Nat.{_≤_, _-_}
 use native.Mathlib.Omega.{arith}
 use lib.ListN.{length}
 use Rattle.runfile.specs.File.{rowFrom}
