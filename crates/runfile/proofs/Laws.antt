@@ -107,6 +107,15 @@ module _ (bytes : List ℕ) (slice : List ℕ) where
   unfolding headingWrites
   heading-written h = cond-true _ _ (eq-eqb _ _ h)
 
+-- a reply carries the refusal's number, 0 where nothing is refused
+pub heading-number : (bytes : List ℕ) (room : ℕ) → headingReply bytes room .refusal ≡ headingRefusal bytes room
+unfolding headingReply headingOf nothingRead
+heading-number bytes room = go (ℕ-discrete (headingRefusal bytes room) 0)
+  where
+    go : Dec (headingRefusal bytes room ≡ 0) → headingReply bytes room .refusal ≡ headingRefusal bytes room
+    go (yes e) = ap (λ (h : Heading). h .refusal) (cond-true _ _ (eq-eqb _ _ e)) ∙ sym e
+    go (no d) = ap (λ (h : Heading). h .refusal) (cond-false _ _ (ne-eqb _ _ d))
+
 -- so does a table
 module _ (n : ℕ) (bytes : List ℕ) (slice : List ℕ) where
   pub table-leaves : (tableRefusal n bytes (length slice) ≡ 0 → ⊥) → tableWrites n bytes slice ≡ slice
