@@ -76,7 +76,8 @@ loop-less c = search needs
 loop-again : tie.Need-loop-again Inv-loop μ-loop
 unfolding field
 loop-again c =
-    (search needs, (omega (arith, c .before .digits .ensures .0, fields-longer (c .before .before .before .before .before .before .before .before .args .numbers .now) (c .before .before .before .before .loop .i)), omega arith))
+    let longer = fields-longer (c .before .before .before .before .before .before .before .before .args .numbers .now) (c .before .before .before .before .loop .i) in
+    (search needs, (omega (arith, c .before .digits .ensures .0), omega arith))
 
 returns-3 : tie.Need-returns-3 Inv-loop μ-loop
 returns-3 c =

@@ -25,7 +25,8 @@ put-digits-requires : tie.Need-put-digits-requires
 unfolding field
 put-digits-requires c κs = (
   c .before .digits .ensures .0,
-  omega (arith, c .before .before .before .pre, c .before .digits .ensures .0, length-set (c .before .before .before .args .out .now) (c .before .before .before .args .at) 32),
+  omega
+      (arith, c .before .before .before .pre, c .before .digits .ensures .0, length-set (c .before .before .before .args .out .now) (c .before .before .before .args .at) 32),
 )
 
 add-result : tie.Need-add-result
@@ -37,7 +38,8 @@ unfolding field
 add-result-2 c = omega (arith, c .before .before .before .before .before .before .pre, c .before .before .before .before .digits .ensures .0)
 
 same-length : tie.Need-same-length
-same-length c = c .before .before .put-digits .kept .0 ∙ length-set (c .before .before .before .before .before .before .args .out .now) _ _
+same-length c =
+    c .before .before .put-digits .kept .0 ∙ length-set (c .before .before .before .before .before .before .args .out .now) _ _
 
 returns : tie.Need-returns
 unfolding field

@@ -17,9 +17,12 @@ Inv-loop out₀ at numbers end₀ i₀ out end i = (i ≤ length numbers) × ((e
 abbrev μ-loop : tie.MeasureT-loop
 μ-loop out₀ at numbers end₀ i₀ out end i = length numbers - i
 
-long-of : (c : tie.At-loop Inv-loop μ-loop) → length (c .loop .out) ≡ length (c .before .before .before .args .out .now)
+abbrev start-of : tie.At-loop Inv-loop μ-loop → tie.Start Inv-loop μ-loop
+start-of c = c .before .before .before
+
+long-of : (c : tie.At-loop Inv-loop μ-loop) → length (c .loop .out) ≡ length (start-of c .args .out .now)
 long-of c =
-    let f = c .before .before .before .args in
+    let f = start-of c .args in
     let numbers = f .numbers .now in
     ap length (c .loop .inv .1 .1)
     ∙ placed-length (f .out .now) (f .at) (fields numbers (c .loop .i))
@@ -27,9 +30,10 @@ long-of c =
 
 -- there is room for one number more
 room-of : (c : tie.In-loop Inv-loop μ-loop) →
-    c .before .before .before .before .args .at + length (fields (c .before .before .before .before .args .numbers .now) (c .before .loop .i + 1)) ≤ length (c .before .before .before .before .args .out .now)
+    start-of (c .before) .args .at + length (fields (start-of (c .before) .args .numbers .now) (c .before .loop .i + 1))
+    ≤ length (start-of (c .before) .args .out .now)
 room-of c =
-    let numbers = c .before .before .before .before .args .numbers .now in
+    let numbers = start-of (c .before) .args .numbers .now in
     omega (arith, fields-more numbers (c .before .loop .i + 1) (length numbers) (search needs))
 
 loop-holds : tie.Need-loop-holds Inv-loop μ-loop
@@ -43,7 +47,10 @@ shared-slice-read-put-number : tie.Need-shared-slice-read-put-number Inv-loop μ
 shared-slice-read-put-number c = search needs
 
 put-number-requires : tie.Need-put-number-requires Inv-loop μ-loop
-put-number-requires c κs = omega (arith, room-of (c .before .before), fields-longer (c .before .before .before .before .before .before .args .numbers .now) (c .before .before .before .loop .i), long-of (c .before .before .before))
+put-number-requires c κs =
+    let head = c .before .before .before in
+    omega
+    (arith, room-of (c .before .before), fields-longer (start-of head .args .numbers .now) (head .loop .i), long-of head)
 
 add-i : tie.Need-add-i Inv-loop μ-loop
 add-i c = search needs
@@ -53,17 +60,18 @@ loop-less c = search needs
 
 loop-again : tie.Need-loop-again Inv-loop μ-loop
 loop-again c =
-    let f = c .before .before .before .before .before .before .before .before .before .args in
+    let head = c .before .before .before .before .before .before in
+    let f = start-of head .args in
     let numbers = f .numbers .now in
-    let i = c .before .before .before .before .before .before .loop .i in
+    let i = head .loop .i in
     let longer = fields-longer numbers i in
     let turn = fields-turn numbers i in (
       search needs,
       (
         omega (arith, c .before .before .put-number .ensures .0),
         c .before .before .put-number .ensures .1
-            ∙ placed-then (f .out .now) (c .before .before .before .before .before .before .loop .out) (f .at) (fields numbers i) (field (getD numbers i 0)) (c .before .before .before .before .before .before .loop .end) (c .before .before .before .before .before .before .loop .inv .1 .1)
-            (c .before .before .before .before .before .before .loop .inv .1 .0) (omega (arith, room-of (c .before .before .before .before .before), ap length turn))
+            ∙ placed-then (f .out .now) (head .loop .out) (f .at) (fields numbers i) (field (getD numbers i 0)) (head .loop .end)
+            (head .loop .inv .1 .1) (head .loop .inv .1 .0) (omega (arith, room-of (c .before .before .before .before .before), ap length turn))
             ∙ ap (placed (f .out .now) (f .at)) (sym turn),
       ),
     )

@@ -1,8 +1,8 @@
 -- `listing::write_line` meets its contract: the reply is made first; a slice that is long enough takes the word, the numbers behind it and the
 -- newline behind them, which together are the line. Assumes nothing.
 use mathlib.Core.Path.{_≡_, ap, sym, _∙_}
-use mathlib.Core.List.{_++_}
-use Prim.Native.Nat.{_+_, _≤_}
+use mathlib.Core.List.{List, _++_}
+use Prim.Native.Nat.{ℕ, _+_, _≤_}
 use native.Mathlib.Omega.{arith}
 use lib.ListN.{length, length-set, length-append}
 use Rattle.listing.specs.declared.Written.{Written}
@@ -13,40 +13,50 @@ use borrow.Author.Needs.{needs}
 use Rattle.listing.proofs.write_line.Statement.{statement}
 use Rattle.listing.proofs.write_line.Tie as tie
 
+abbrev start-of : tie.Else1 → tie.Start
+start-of c = c .before .before .before .before .before .before
+
+-- where the numbers are written, too
+abbrev first-of : tie.After-slice-known3 → tie.Start
+first-of c = start-of (c .before .before .before .before .before .before .before .before)
+
+abbrev word-of : tie.Start → List ℕ
+word-of s = s .args .word .now
+
+-- the numbers, each as a space and its digits
+abbrev numbers-of : tie.Start → List ℕ
+numbers-of s = fields (s .args .numbers .now) (length (s .args .numbers .now))
+
 -- the reply is no refusal
 none-of : (c : tie.Else1) →
-    lineReply (c .before .before .before .before .before .before .args .word .now) (c .before .before .before .before .before .before .args .numbers .now) (length (c .before .before .before .before .before .before .args .out .now)) .refusal ≡ 0
+    lineReply (word-of (start-of c)) (start-of c .args .numbers .now) (length (start-of c .args .out .now)) .refusal ≡ 0
 none-of c = ap (λ (w : Written). w .refusal) (sym (c .before .before .measured .ensures)) ∙ c .if1 .left
 
--- the word, the numbers and the newline have their place in the slice
+-- the line has its place in the slice, and so have its parts
+line-of : (c : tie.Else1) →
+    length (lineOf (word-of (start-of c)) (start-of c .args .numbers .now)) ≤ length (start-of c .args .out .now)
+line-of c = line-fits _ _ _ (none-of c)
+
 fits-of : (c : tie.Else1) →
-    length (c .before .before .before .before .before .before .args .word .now) + length (fields (c .before .before .before .before .before .before .args .numbers .now) (length (c .before .before .before .before .before .before .args .numbers .now))) + 1
-    ≤ length (c .before .before .before .before .before .before .args .out .now)
-fits-of c =
-    let f = c .before .before .before .before .before .before .args in
-    omega (
-      arith,
-      line-length (f .word .now) (f .numbers .now),
-      line-fits (f .word .now) (f .numbers .now) (length (f .out .now)) (none-of c),
-    )
+    length (word-of (start-of c)) + length (numbers-of (start-of c)) + 1 ≤ length (start-of c .args .out .now)
+fits-of c = omega (arith, line-length (word-of (start-of c)) (start-of c .args .numbers .now), line-of c)
 
 -- the word, and behind it the numbers
 text-of : (c : tie.After-slice-known3) →
     c .before .before .put-numbers .last .0
-    ≡ placed (c .before .before .before .before .before .before .before .before .before .before .before .before .before .before .args .out .now) 0 (c .before .before .before .before .before .before .before .before .before .before .before .before .before .before .args .word .now ++ fields (c .before .before .before .before .before .before .before .before .before .before .before .before .before .before .args .numbers .now) (length (c .before .before .before .before .before .before .before .before .before .before .before .before .before .before .args .numbers .now)))
+    ≡ placed (first-of c .args .out .now) 0 (word-of (first-of c) ++ numbers-of (first-of c))
 text-of c =
-    let f = c .before .before .before .before .before .before .before .before .before .before .before .before .before .before .args in
-    let numbers = fields (f .numbers .now) (length (f .numbers .now)) in
+    let s = first-of c in
     c .before .before .put-numbers .ensures .1
-    ∙ placed-then (f .out .now) _ 0 (f .word .now) numbers (length (f .word .now)) (c .before .before .before .before .before .before .put-word .ensures) (omega arith)
-    (omega (arith, fits-of (c .before .before .before .before .before .before .before .before), length-append (f .word .now) numbers))
+    ∙ placed-then (s .args .out .now) _ 0 (word-of s) (numbers-of s) (length (word-of s)) (c .before .before .before .before .before .before .put-word .ensures)
+    (omega arith) (omega (arith, fits-of (c .before .before .before .before .before .before .before .before), length-append (word-of s) (numbers-of s)))
 
-long-of : (c : tie.After-slice-known3) → length (c .before .before .put-numbers .last .0) ≡ length (c .before .before .before .before .before .before .before .before .before .before .before .before .before .before .args .out .now)
+long-of : (c : tie.After-slice-known3) → length (c .before .before .put-numbers .last .0) ≡ length (first-of c .args .out .now)
 long-of c =
-    let f = c .before .before .before .before .before .before .before .before .before .before .before .before .before .before .args in
-    let numbers = fields (f .numbers .now) (length (f .numbers .now)) in
+    let s = first-of c in
     ap length (text-of c)
-    ∙ placed-length (f .out .now) 0 (f .word .now ++ numbers) (omega (arith, fits-of (c .before .before .before .before .before .before .before .before), length-append (f .word .now) numbers))
+    ∙ placed-length (s .args .out .now) 0 (word-of s ++ numbers-of s)
+    (omega (arith, fits-of (c .before .before .before .before .before .before .before .before), length-append (word-of s) (numbers-of s)))
 
 measured-requires : tie.Need-measured-requires
 measured-requires c κs = search needs
@@ -76,13 +86,13 @@ same-length c = length-set (c .before .before .put-numbers .last .0) _ _ ∙ lon
 returns-2 : tie.Need-returns-2
 unfolding lineOf
 returns-2 c =
-    let f = c .before .before .before .before .before .before .before .before .before .before .before .before .before .before .args in
-    let text = f .word .now ++ fields (f .numbers .now) (length (f .numbers .now)) in (
+    let s = first-of c in
+    let behind = c .before .before .put-numbers .ensures .0 in (
       c .before .before .before .before .before .before .before .before .before .before .measured .ensures,
-      placed-next (f .out .now) (c .before .before .put-numbers .last .0) 0 text 10 (c .before .before .put-numbers .result) (text-of c)
-          (c .before .before .put-numbers .ensures .0 ∙ omega (arith, length-append (f .word .now) (fields (f .numbers .now) (length (f .numbers .now)))))
-          (omega (arith, fits-of (c .before .before .before .before .before .before .before .before), c .before .before .put-numbers .ensures .0))
-          ∙ sym (line-written (f .word .now) (f .numbers .now) (f .out .now) (line-fits (f .word .now) (f .numbers .now) _ (none-of (c .before .before .before .before .before .before .before .before)))),
+      placed-next (s .args .out .now) _ 0 (word-of s ++ numbers-of s) 10 _ (text-of c)
+          (behind ∙ omega (arith, length-append (word-of s) (numbers-of s)))
+          (omega (arith, fits-of (c .before .before .before .before .before .before .before .before), behind))
+          ∙ sym (line-written (word-of s) (s .args .numbers .now) (s .args .out .now) (line-of (c .before .before .before .before .before .before .before .before))),
     )
 
 pub write-line-spec : {M : Type 1} → statement M

@@ -2,7 +2,7 @@
 -- from one to the next. Assumes nothing.
 use mathlib.Core.Path.{_≡_, sym, ap, _∙_}
 use mathlib.Core.Bool.{not, false}
-use mathlib.Core.List.{[]}
+use mathlib.Core.List.{List, []}
 use Prim.Native.Nat.{ℕ}
 use native.Mathlib.Omega.{arith}
 use lib.ListN.{drop, getD}
@@ -19,60 +19,90 @@ use borrow.Author.Needs.{needs}
 use Rattle.runfile.proofs.heading_refusal.Statement.{statement}
 use Rattle.runfile.proofs.heading_refusal.Tie as tie
 
+-- the way back to the start from behind each test that was passed
+abbrev start-1 : tie.Else1 → tie.Start
+start-1 c = c .before .before
+
+abbrev start-2 : tie.Else2 → tie.Start
+start-2 c = start-1 (c .before .before)
+
+abbrev start-3 : tie.Else3 → tie.Start
+start-3 c = start-2 (c .before .before)
+
+abbrev start-4 : tie.Else4 → tie.Start
+start-4 c = start-3 (c .before .before .before)
+
+abbrev start-5 : tie.Else5 → tie.Start
+start-5 c = start-4 (c .before .before .before)
+
+abbrev start-6 : tie.Else6 → tie.Start
+start-6 c = start-5 (c .before .before .before)
+
+abbrev start-7 : tie.Else7 → tie.Start
+start-7 c = start-6 (c .before)
+
+abbrev start-8 : tie.Else8 → tie.Start
+start-8 c = start-7 (c .before .before)
+
+abbrev bytes-of : tie.Start → List ℕ
+bytes-of s = s .args .bytes .now
+
+abbrev n-of : tie.Start → ℕ
+n-of s = getD (bytes-of s) 5 0
+
 -- the tests up to a place of the list are passed
 abbrev Passed : tie.Start → ℕ → Type 0
 Passed s k =
-    headingRefusal (s .args .bytes .now) (s .args .room)
-    ≡ firstOf (drop k (headingTests (s .args .bytes .now) (s .args .room)))
+    headingRefusal (bytes-of s) (s .args .room) ≡ firstOf (drop k (headingTests (bytes-of s) (s .args .room)))
 
-passed-1 : (c : tie.Else1) → Passed (c .before .before) 1
+passed-1 : (c : tie.Else1) → Passed (start-1 c) 1
 unfolding headingRefusal headingTests
 passed-1 c = passed 1 _ (le-ltb _ _ (c .if1 .left))
 
-passed-2 : (c : tie.Else2) → Passed (c .before .before .before .before) 2
+passed-2 : (c : tie.Else2) → Passed (start-2 c) 2
 unfolding headingTests
 passed-2 c = passed-1 (c .before .before) ∙ passed 2 _ (ap not (sym (c .before .is-marked .ensures)) ∙ c .if2 .left)
 
-passed-3 : (c : tie.Else3) → Passed (c .before .before .before .before .before .before) 3
+passed-3 : (c : tie.Else3) → Passed (start-3 c) 3
 unfolding headingTests versionOf
 passed-3 c = passed-2 (c .before .before) ∙ passed 3 _ (not-of-true (eq-eqb _ _ (sym (c .before .number2 .ensures .0) ∙ c .if3 .left)))
 
-inside-of : (c : tie.Else4) → outside (getD (c .before .before .before .before .before .before .before .before .before .args .bytes .now) 5 0) ≡ false
+inside-of : (c : tie.Else4) → outside (n-of (start-4 c)) ≡ false
 inside-of c = sym (c .before .is-outside .ensures) ∙ c .if4 .left
 
-passed-4 : (c : tie.Else4) → Passed (c .before .before .before .before .before .before .before .before .before) 4
+passed-4 : (c : tie.Else4) → Passed (start-4 c) 4
 unfolding headingTests nOf
 passed-4 c = passed-3 (c .before .before .before) ∙ passed 4 _ (inside-of c)
 
-passed-5 : (c : tie.Else5) → Passed (c .before .before .before .before .before .before .before .before .before .before .before .before) 5
+passed-5 : (c : tie.Else5) → Passed (start-5 c) 5
 unfolding headingTests nOf tByte
 passed-5 c = passed-4 (c .before .before .before) ∙ passed 5 _ (sym (c .before .is-too-many .ensures) ∙ c .if5 .left)
 
 -- the faulty set is the number that was read
 stray-of : (c : tie.After-is-stray) →
-    stray (getD (c .before .before .before .before .before .before .before .before .before .before .before .before .before .before .args .bytes .now) 5 0) (faultyOf (c .before .before .before .before .before .before .before .before .before .before .before .before .before .before .args .bytes .now)) ≡ c .is-stray .result
+    stray (n-of (start-5 (c .before .before))) (faultyOf (bytes-of (start-5 (c .before .before)))) ≡ c .is-stray .result
 unfolding faultyOf
 stray-of c = ap (stray _) (sym (c .before .number22 .ensures .0)) ∙ sym (c .is-stray .ensures)
 
-passed-6 : (c : tie.Else6) → Passed (c .before .before .before .before .before .before .before .before .before .before .before .before .before .before .before) 6
+passed-6 : (c : tie.Else6) → Passed (start-6 c) 6
 unfolding headingTests nOf
 passed-6 c = passed-5 (c .before .before .before) ∙ passed 6 _ (stray-of (c .before) ∙ c .if6 .left)
 
-passed-8 : (c : tie.Else7) → Passed (c .before .before .before .before .before .before .before .before .before .before .before .before .before .before .before .before) 7
+passed-8 : (c : tie.Else7) → Passed (start-7 c) 7
 unfolding headingTests nOf headingBytes
 passed-8 c = passed-6 (c .before) ∙ passed 8 _ (le-ltb _ _ (c .if7 .left))
 
 zero-of : (c : tie.After-has-sound-zero) →
-    soundZero (getD (c .before .before .before .before .before .before .before .before .before .before .before .before .before .before .before .before .before .args .bytes .now) 5 0) (faultyOf (c .before .before .before .before .before .before .before .before .before .before .before .before .before .before .before .before .before .args .bytes .now))
-    (build (getD (c .before .before .before .before .before .before .before .before .before .before .before .before .before .before .before .before .before .args .bytes .now) 5 0) (headingRow (c .before .before .before .before .before .before .before .before .before .before .before .before .before .before .before .before .before .args .bytes .now)))
+    soundZero (n-of (start-7 (c .before))) (faultyOf (bytes-of (start-7 (c .before))))
+    (build (n-of (start-7 (c .before))) (headingRow (bytes-of (start-7 (c .before)))))
     ≡ c .has-sound-zero .result
 unfolding faultyOf
 zero-of c =
-    let n = getD (c .before .before .before .before .before .before .before .before .before .before .before .before .before .before .before .before .before .args .bytes .now) 5 0 in
-    ap (λ (faulty : ℕ). soundZero n faulty (build n (headingRow (c .before .before .before .before .before .before .before .before .before .before .before .before .before .before .before .before .before .args .bytes .now)))) (sym (c .before .before .before .before .number22 .ensures .0))
+    let s = start-7 (c .before) in
+    ap (λ (faulty : ℕ). soundZero (n-of s) faulty (build (n-of s) (headingRow (bytes-of s)))) (sym (c .before .before .before .before .number22 .ensures .0))
     ∙ sym (c .has-sound-zero .ensures)
 
-passed-9 : (c : tie.Else8) → Passed (c .before .before .before .before .before .before .before .before .before .before .before .before .before .before .before .before .before .before) 8
+passed-9 : (c : tie.Else8) → Passed (start-8 c) 8
 unfolding headingTests nOf
 passed-9 c = passed-8 (c .before .before) ∙ passed 9 _ (zero-of (c .before) ∙ c .if8 .left)
 

@@ -22,7 +22,9 @@ add-result : tie.Need-add-result
 add-result c = search needs
 
 returns : tie.Need-returns
-returns c = omega (arith, c .before .number4 .ensures .0, c .number42 .ensures .0, number-split (c .before .before .before .args .bytes .now) (c .before .before .before .args .at) 4 4)
+returns c =
+    let f = c .before .before .before .args in
+    omega (arith, c .before .number4 .ensures .0, c .number42 .ensures .0, number-split (f .bytes .now) (f .at) 4 4)
 
 pub number8-spec : {M : Type 1} → statement M
 number8-spec =

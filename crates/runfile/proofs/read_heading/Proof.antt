@@ -13,11 +13,14 @@ use borrow.Author.Needs.{needs}
 use Rattle.runfile.proofs.read_heading.Statement.{statement}
 use Rattle.runfile.proofs.read_heading.Tie as tie
 
-none : (c : tie.Else1) → headingRefusal (c .before .before .before .before .args .bytes .now) (length (c .before .before .before .before .args .rows .now)) ≡ 0
+abbrev start-of : tie.Else1 → tie.Start
+start-of c = c .before .before .before .before
+
+none : (c : tie.Else1) → headingRefusal (start-of c .args .bytes .now) (length (start-of c .args .rows .now)) ≡ 0
 none c = sym (c .before .heading-refusal .ensures) ∙ c .if1 .left
 
 -- what the heading passed
-read : (c : tie.Else1) → Accepted (c .before .before .before .before .args .bytes .now) (length (c .before .before .before .before .args .rows .now))
+read : (c : tie.Else1) → Accepted (start-of c .args .bytes .now) (length (start-of c .args .rows .now))
 read c = heading-accepted _ _ (none c)
 
 n-of : (c : tie.After-heading-of) → c .heading-of .result .n ≡ nOf (c .before .before .before .before .before .args .bytes .now)

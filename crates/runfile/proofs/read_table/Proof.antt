@@ -13,11 +13,16 @@ use borrow.Author.Needs.{needs}
 use Rattle.runfile.proofs.read_table.Statement.{statement}
 use Rattle.runfile.proofs.read_table.Tie as tie
 
-none : (c : tie.Else1) → tableRefusal (c .before .before .before .before .args .n) (c .before .before .before .before .args .bytes .now) (length (c .before .before .before .before .args .rows .now)) ≡ 0
+abbrev start-of : tie.Else1 → tie.Start
+start-of c = c .before .before .before .before
+
+none : (c : tie.Else1) →
+    tableRefusal (start-of c .args .n) (start-of c .args .bytes .now) (length (start-of c .args .rows .now)) ≡ 0
 none c = sym (c .before .table-refusal .ensures) ∙ c .if1 .left
 
 -- what the table passed
-read : (c : tie.Else1) → TableAccepted (c .before .before .before .before .args .n) (c .before .before .before .before .args .bytes .now) (length (c .before .before .before .before .args .rows .now))
+read : (c : tie.Else1) →
+    TableAccepted (start-of c .args .n) (start-of c .args .bytes .now) (length (start-of c .args .rows .now))
 read c = table-accepted _ _ _ (none c)
 
 rows-of : (c : tie.After-table-rows) → c .table-rows .result ≡ tableRows (c .before .before .before .before .before .args .n)
