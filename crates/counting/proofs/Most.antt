@@ -44,10 +44,8 @@ supported xs v h = (not-zero, stands)
   where
     not-zero : v ≡ 0 → ⊥
     not-zero e = not-suc-le-zero (subst (λ (m : ℕ). 0 < m) (ap (support xs) e) h)
-
     some : Some (length xs) (λ k. eqb (getD xs k 0) v)
     some = count-some (length xs) (λ k. eqb (getD xs k 0) v) (subst (λ (m : ℕ). 0 < m) (support-places xs v not-zero) h)
-
     stands : Stands xs v
     stands = record { at = some .at; below = some .below; here = eqb-true (getD xs (some .at) 0) v (some .passes) }
 
@@ -67,8 +65,8 @@ holds : (xs : List ℕ) (a b : ℕ) → before xs a b ≡ false → Holds xs a b
 unfolding before
 holds xs a b h =
     record {
-      greatest = ltb-false (support xs a) (support xs b) (or-false-left (ltb (support xs a) (support xs b)) _ h);
-      lowest = λ e. low e;
+    greatest = ltb-false (support xs a) (support xs b) (or-false-left (ltb (support xs a) (support xs b)) _ h);
+    lowest = λ e. low e
     }
   where
     low : support xs a ≡ support xs b → a ≤ b
@@ -155,7 +153,6 @@ most-is xs = record { greatest = λ v. great v (support xs v) refl; lowest = λ 
     great : (v s : ℕ) → support xs v ≡ s → support xs v ≤ support xs (most xs)
     great v zero e = omega arith
     great v (suc s) e = supported-holds xs v (omega arith) .greatest
-
     low : (v : ℕ) → support xs v ≡ support xs (most xs) → Dec (most xs ≡ 0) → most xs ≤ v
     low v e (yes n) = omega arith
     low v e (no n) =
@@ -170,13 +167,12 @@ most-zero xs e k l = go (ℕ-discrete (getD xs k 0) 0)
     go (yes z) = z
     go (no z) =
         absurd
-        (omega (
-          arith,
-          element-supported xs k l z,
-          most-is xs .greatest (getD xs k 0),
-          ap (support xs) e,
-          support-zero xs,
-        ))
+        (omega
+        (arith,
+        element-supported xs k l z,
+        most-is xs .greatest (getD xs k 0),
+        ap (support xs) e,
+        support-zero xs))
 
 -- it is one of the elements, whole
 pub most-stands : (xs : List ℕ) → (most xs ≡ 0 → ⊥) → Stands xs (most xs)
@@ -186,7 +182,7 @@ most-stands xs h = supported xs (most xs) (most-supported xs h) .1
 pub most-unique : (xs : List ℕ) (w : ℕ) → IsMost xs w → (w ≡ 0 → ⊥) → 0 < support xs w → w ≡ most xs
 most-unique xs w m z s =
     let same : support xs w ≡ support xs (most xs) =
-    le-antisymm (most-is xs .greatest w) (m .greatest (most xs)) in
+        le-antisymm (most-is xs .greatest w) (m .greatest (most xs)) in
     le-antisymm
     (m .lowest (most xs) (supported xs (most xs) (omega arith) .0) (sym same))
     (most-is xs .lowest w z same)

@@ -55,7 +55,6 @@ keeps s b n k h =
   where
     above : n ≡ n - suc k + 1 + k
     above = omega arith
-
     split : b * 2 ^ n ≡ b * 2 ^ (n - suc k) * 2 * 2 ^ k
     split =
         ap (λ (m : ℕ). b * 2 ^ m) above
@@ -79,7 +78,6 @@ member-setOf (suc n) p k h =
         ap (λ (m : ℕ). eqb (m % 2) 1)
         (ap (λ (m : ℕ). m / 2 ^ n) (add-comm (setOf n p) (bit (p n) * 2 ^ n)) ∙ high (bit (p n)) n (setOf-lt n p))
         ∙ is-bit (p n)
-
     top : n ≡ k → eqb ((setOf n p + bit (p n) * 2 ^ n) / 2 ^ k % 2) 1 ≡ p k
     top e = subst (λ (m : ℕ). eqb ((setOf n p + bit (p n) * 2 ^ n) / 2 ^ m % 2) 1 ≡ p m) e at-top
 

@@ -37,11 +37,11 @@ module _ (s : Run) (table : List ℕ) where
   unfoldable pub nextRun : Run
   nextRun =
       record {
-        n = s .n;
-        t = s .t;
-        faulty = s .faulty;
-        done = s .done + 1;
-        sent = s .sent + messages (s .n) (s .t) (s .faulty) (s .rows) (s .lists) table;
-        rows = build 13 (entry newRow);
-        lists = build 13 (entry newList);
+      n = s .n;
+      t = s .t;
+      faulty = s .faulty;
+      done = s .done + 1;
+      sent = s .sent + messages (s .n) (s .t) (s .faulty) (s .rows) (s .lists) table;
+      rows = build 13 (entry newRow);
+      lists = build 13 (entry newList)
       }

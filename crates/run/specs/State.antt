@@ -36,21 +36,21 @@ startRefusal n t faulty rows =
 unfoldable pub startRun : ℕ → ℕ → ℕ → List ℕ → Run
 startRun n t faulty rows =
     record {
-      n = n;
-      t = t;
-      faulty = faulty;
-      done = 0;
-      sent = 0;
-      rows = build 13 (startRow n faulty rows);
-      lists = replicate 13 0;
+    n = n;
+    t = t;
+    faulty = faulty;
+    done = 0;
+    sent = 0;
+    rows = build 13 (startRow n faulty rows);
+    lists = replicate 13 0
     }
 
 -- a refused start gives a state of zeros
 unfoldable pub startReply : ℕ → ℕ → ℕ → List ℕ → Next
 startReply n t faulty rows =
     record {
-      refusal = startRefusal n t faulty rows;
-      run = cond (eqb (startRefusal n t faulty rows) 0) (startRun n t faulty rows) zeros;
+    refusal = startRefusal n t faulty rows;
+    run = cond (eqb (startRefusal n t faulty rows) 0) (startRun n t faulty rows) zeros
     }
 
 -- refusal 14: a non-zero row or list in a faulty or unused place, or a list bit at place n or above
@@ -80,8 +80,8 @@ iterateRefusal s table =
 unfoldable pub iterateReply : Run → List ℕ → Next
 iterateReply s table =
     record {
-      refusal = iterateRefusal s table;
-      run = cond (eqb (iterateRefusal s table) 0) (nextRun s table) s;
+    refusal = iterateRefusal s table;
+    run = cond (eqb (iterateRefusal s table) 0) (nextRun s table) s
     }
 
 -- a run of several tables: the reply after the first m of them

@@ -7,19 +7,7 @@ const LARGEST_T: [u8; 13] = [0, 0, 0, 1, 1, 1, 2, 2, 2, 3, 3, 3, 4];
 
 // The rows in one iteration's table, for n = 1 to 13.
 const TABLE_ROWS: [usize; 13] = [
-    3,
-    20,
-    63,
-    144,
-    275,
-    468,
-    735,
-    1088,
-    1539,
-    2100,
-    2783,
-    3600,
-    4563,
+    3, 20, 63, 144, 275, 468, 735, 1088, 1539, 2100, 2783, 3600, 4563,
 ];
 
 // The largest t for n boxes, and 0 where n is outside 1 to 13.

@@ -44,19 +44,14 @@ module _ (t : ℕ) (xs : List ℕ) where
     where
       n : ℕ
       n = length xs
-
       is : ℕ → Bool
       is k = carried t xs (getD xs k 0)
-
       differ : ℕ → ℕ → Bool
       differ i j = not (eqb (getD xs i 0) (getD xs j 0))
-
       pair : ℕ → ℕ → Bool
       pair i j = is i && is j && differ i j
-
       rivals : ℕ → Bool
       rivals k = is k && not (eqb (getD xs k 0) (voteOf t xs))
-
       -- of two different rows one at least differs from the row found
       one-of : (i j : ℕ) → i < n → j < n → is i ≡ true → is j ≡ true → differ i j ≡ true → any n rivals ≡ true
       one-of i j bi bj ci cj d =
@@ -67,7 +62,6 @@ module _ (t : ℕ) (xs : List ℕ) where
           )
           (λ e. some-any n rivals i bi (both ci (not-of-false e)))
           (either (eqb (getD xs i 0) (voteOf t xs)))
-
       there : twoRows t xs ≡ true → any n rivals ≡ true
       there h =
           let i : Some n (λ i. any n (pair i)) = any-some n (λ i. any n (pair i)) h in
@@ -76,7 +70,6 @@ module _ (t : ℕ) (xs : List ℕ) where
           one-of (i .at) (j .at) (i .below) (j .below) (and-left (is (i .at)) (is (j .at)) cs)
           (and-right (is (i .at)) (is (j .at)) cs)
           (and-right (is (i .at) && is (j .at)) (differ (i .at) (j .at)) (j .passes))
-
       back : any n rivals ≡ true → twoRows t xs ≡ true
       back h =
           let k : Some n rivals = any-some n rivals h in

@@ -48,15 +48,15 @@ voteReply xs t = record { refusal = voteRefusal t xs; row = unless (voteRefusal 
 unfoldable pub gradeReply : List ℕ → ℕ → Graded
 gradeReply xs t =
     record {
-      refusal = gradeRefusal (length xs) t;
-      row = unless (gradeRefusal (length xs) t) (gradedRow t xs);
-      confidence = unless (gradeRefusal (length xs) t) (confidenceOf t xs);
+    refusal = gradeRefusal (length xs) t;
+    row = unless (gradeRefusal (length xs) t) (gradedRow t xs);
+    confidence = unless (gradeRefusal (length xs) t) (confidenceOf t xs)
     }
 
 unfoldable pub choiceReply : List ℕ → List ℕ → Chosen
 choiceReply rows confidences =
     record {
-      refusal = choiceRefusal rows confidences;
-      row = unless (choiceRefusal rows confidences) (chosenRow rows confidences);
-      firm = unless (choiceRefusal rows confidences) (firmLeaders rows confidences);
+    refusal = choiceRefusal rows confidences;
+    row = unless (choiceRefusal rows confidences) (chosenRow rows confidences);
+    firm = unless (choiceRefusal rows confidences) (firmLeaders rows confidences)
     }

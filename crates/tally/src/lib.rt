@@ -197,26 +197,14 @@ pub fn grade(rows: &[u64], t: u8) -> Graded
 {
     let refusal = size_refusal(rows.len(), t);
     if refusal != 0 {
-        return Graded {
-            refusal,
-            row: 0,
-            confidence: 0,
-        };
+        return Graded { refusal, row: 0, confidence: 0 };
     }
     let lead = lead_of(rows);
     let confidence = confidence_at(lead.support, t);
     if confidence == 0 {
-        return Graded {
-            refusal: 0,
-            row: 0,
-            confidence: 0,
-        };
+        return Graded { refusal: 0, row: 0, confidence: 0 };
     }
-    Graded {
-        refusal: 0,
-        row: lead.row,
-        confidence,
-    }
+    Graded { refusal: 0, row: lead.row, confidence }
 }
 
 // A leader's row where its confidence is 1 or 2, and nothing where it is 0.
@@ -317,25 +305,13 @@ pub fn choose(rows: &[u64], confidences: &[u8]) -> Chosen
 {
     let refusal = choice_refusal(rows, confidences);
     if refusal != 0 {
-        return Chosen {
-            refusal,
-            row: 0,
-            firm: 0,
-        };
+        return Chosen { refusal, row: 0, firm: 0 };
     }
     let n = rows.len();
     let counted = counted_rows(rows, confidences);
     let lead = lead_of(&counted[..n]);
     if lead.row == 0 {
-        return Chosen {
-            refusal: 0,
-            row: 0,
-            firm: 0,
-        };
+        return Chosen { refusal: 0, row: 0, firm: 0 };
     }
-    Chosen {
-        refusal: 0,
-        row: lead.row,
-        firm: firm_for(rows, confidences, lead.row),
-    }
+    Chosen { refusal: 0, row: lead.row, firm: firm_for(rows, confidences, lead.row) }
 }

@@ -12,7 +12,7 @@ use Rattle.tally.proofs.ahead.Statement.{statement}
 use Rattle.tally.proofs.ahead.Tie as tie
 
 returns : tie.Need-returns
-returns c =
+returns c = 
     keeps-lead (c .before .before .before .args .rows .now) (c .before .before .before .args .lead) (c .before .before .before .args .v) (c .before .before .before .pre)
     (ap (before (c .before .before .before .args .rows .now) (c .before .before .before .args .lead .row)) (c .if1 .taken) ∙ before-self (c .before .before .before .args .rows .now) (c .before .before .before .args .lead .row))
 
@@ -20,22 +20,22 @@ support-of-requires : tie.Need-support-of-requires
 support-of-requires c κs = search needs
 
 returns-2 : tie.Need-returns-2
-returns-2 c =
+returns-2 c = 
     takes-lead (c .before .before .before .before .before .before .args .rows .now) (c .before .before .before .before .before .before .args .lead) (c .before .before .before .before .before .before .args .v) (c .before .before .support-of .result) (c .before .before .support-of .ensures)
     (before-more (c .before .before .before .before .before .before .args .rows .now) (c .before .before .before .before .before .before .args .lead .row) (c .before .before .before .before .before .before .args .v) (omega (arith, lead-support (c .before .before .before .before .before .before .args .rows .now) (c .before .before .before .before .before .before .args .lead) (c .before .before .before .before .before .before .args .v) (c .before .before .before .before .before .before .pre), c .before .before .support-of .ensures)))
 
 returns-3 : tie.Need-returns-3
-returns-3 c =
+returns-3 c = 
     keeps-lead (c .before .before .before .before .before .before .before .before .args .rows .now) (c .before .before .before .before .before .before .before .before .args .lead) (c .before .before .before .before .before .before .before .before .args .v) (c .before .before .before .before .before .before .before .before .pre)
     (before-fewer (c .before .before .before .before .before .before .before .before .args .rows .now) (c .before .before .before .before .before .before .before .before .args .lead .row) (c .before .before .before .before .before .before .before .before .args .v) (omega (arith, lead-support (c .before .before .before .before .before .before .before .before .args .rows .now) (c .before .before .before .before .before .before .before .before .args .lead) (c .before .before .before .before .before .before .before .before .args .v) (c .before .before .before .before .before .before .before .before .pre), c .before .before .before .before .support-of .ensures)))
 
 returns-4 : tie.Need-returns-4
-returns-4 c =
+returns-4 c = 
     let tie = before-tie (c .before .before .before .before .before .before .before .before .before .before .args .rows .now) (c .before .before .before .before .before .before .before .before .before .before .args .lead .row) (c .before .before .before .before .before .before .before .before .before .before .args .v) (omega (arith, lead-support (c .before .before .before .before .before .before .before .before .before .before .args .rows .now) (c .before .before .before .before .before .before .before .before .before .before .args .lead) (c .before .before .before .before .before .before .before .before .before .before .args .v) (c .before .before .before .before .before .before .before .before .before .before .pre), c .before .before .before .before .before .before .support-of .ensures)) in
     takes-lead (c .before .before .before .before .before .before .before .before .before .before .args .rows .now) (c .before .before .before .before .before .before .before .before .before .before .args .lead) (c .before .before .before .before .before .before .before .before .before .before .args .v) (c .before .before .before .before .before .before .support-of .result) (c .before .before .before .before .before .before .support-of .ensures) (tie ∙ lt-ltb _ _ (c .if4 .taken))
 
 returns-5 : tie.Need-returns-5
-returns-5 c =
+returns-5 c = 
     let tie = before-tie (c .before .before .before .before .before .before .before .before .before .before .args .rows .now) (c .before .before .before .before .before .before .before .before .before .before .args .lead .row) (c .before .before .before .before .before .before .before .before .before .before .args .v) (omega (arith, lead-support (c .before .before .before .before .before .before .before .before .before .before .args .rows .now) (c .before .before .before .before .before .before .before .before .before .before .args .lead) (c .before .before .before .before .before .before .before .before .before .before .args .v) (c .before .before .before .before .before .before .before .before .before .before .pre), c .before .before .before .before .before .before .support-of .ensures)) in
     keeps-lead (c .before .before .before .before .before .before .before .before .before .before .args .rows .now) (c .before .before .before .before .before .before .before .before .before .before .args .lead) (c .before .before .before .before .before .before .before .before .before .before .args .v) (c .before .before .before .before .before .before .before .before .before .before .pre) (tie ∙ le-ltb _ _ (c .if4 .left))
 

@@ -37,7 +37,7 @@ outvoted-requires c κs = search needs
 
 returns : tie.Need-returns Inv-loop μ-loop
 unfolding rival
-returns c =
+returns c = 
     sym
     (some-any _ _ (c .before .before .before .before .loop .i) (search needs)
     (outvotes _ _ _ _ ∙ not-of-false (ne-eqb _ _ (λ e. c .if1 .taken (c .before .outvoted .ensures ∙ e)))))
@@ -49,11 +49,10 @@ loop-less : tie.Need-loop-less Inv-loop μ-loop
 loop-less c = search needs
 
 loop-again : tie.Need-loop-again Inv-loop μ-loop
-loop-again c = (
-  search needs,
-  any-turn _ _ (c .before .before .before .before .loop .inv .1)
-      (outvotes _ _ _ _ ∙ not-of-true (eq-eqb _ _ (sym (c .before .outvoted .ensures) ∙ c .if1 .left))),
-)
+loop-again c = 
+    (search needs,
+    any-turn _ _ (c .before .before .before .before .loop .inv .1)
+    (outvotes _ _ _ _ ∙ not-of-true (eq-eqb _ _ (sym (c .before .outvoted .ensures) ∙ c .if1 .left))))
 
 returns-2 : tie.Need-returns-2 Inv-loop μ-loop
 unfolding rival

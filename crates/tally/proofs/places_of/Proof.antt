@@ -37,10 +37,9 @@ add-found c =
     let rows = c .before .before .before .before .before .args .rows .now in
     let v = c .before .before .before .before .before .args .v in
     let i = c .before .before .before .loop .i in
-    omega (
-      arith,
-      count-turn-le i (λ k. eqb (getD rows k 0) v) (eqb (getD rows i 0) v) (c .before .before .before .loop .inv .1) (c .one-if-same .ensures),
-    )
+    omega
+    (arith,
+    count-turn-le i (λ k. eqb (getD rows k 0) v) (eqb (getD rows i 0) v) (c .before .before .before .loop .inv .1) (c .one-if-same .ensures))
 
 add-i : tie.Need-add-i Inv-loop μ-loop
 add-i c = search needs

@@ -30,10 +30,9 @@ returns-3 c =
 returns-4 : tie.Need-returns-4
 unfolding gradeRefusal firstOf
 returns-4 c =
-    rw (
-      inside (c .before .before .before .args .n) (search needs) (search needs),
-      tolerated (c .before .before .before .args .n) (c .before .before .before .args .t) (search needs),
-    )
+    rw
+    (inside (c .before .before .before .args .n) (search needs) (search needs),
+    tolerated (c .before .before .before .args .n) (c .before .before .before .args .t) (search needs))
 
 pub size-refusal-spec : {M : Type 1} → statement M
 size-refusal-spec = tie.close (tie.spec returns returns-2 mul-if3 returns-3 returns-4)
