@@ -15,15 +15,15 @@ number bytes at (suc size) = number bytes at size * 256 + getD bytes (at + size)
 unfoldable pub marked : List ℕ → Bool
 marked bytes = eqb (getD bytes 0 0) 72 && eqb (getD bytes 1 0) 78 && eqb (getD bytes 2 0) 66
 
--- version in 16 bits, n in 8, t in 8, faulty set in 16
+-- version in 16 bits, n in 8 and t in 8, which is a byte each, faulty set in 16
 unfoldable pub versionOf : List ℕ → ℕ
 versionOf bytes = number bytes 3 2
 
 unfoldable pub nOf : List ℕ → ℕ
-nOf bytes = number bytes 5 1
+nOf bytes = getD bytes 5 0
 
 unfoldable pub tByte : List ℕ → ℕ
-tByte bytes = number bytes 6 1
+tByte bytes = getD bytes 6 0
 
 unfoldable pub faultyOf : List ℕ → ℕ
 faultyOf bytes = number bytes 7 2
@@ -36,9 +36,13 @@ tOf n byte = cond (eqb byte 255) (largestT n) byte
 unfoldable pub headingBytes : ℕ → ℕ
 headingBytes n = 9 + 8 * n
 
--- row k of the heading, and row k of a table
+-- row k of those that begin at a place, each of 64 bits
+unfoldable pub rowFrom : ℕ → List ℕ → ℕ → ℕ
+rowFrom at bytes k = number bytes (at + 8 * k) 8
+
+-- the heading's rows begin behind its 9 bytes, and a table's with its first byte
 unfoldable pub headingRow : List ℕ → ℕ → ℕ
-headingRow bytes k = number bytes (9 + 8 * k) 8
+headingRow = rowFrom 9
 
 unfoldable pub tableRow : List ℕ → ℕ → ℕ
-tableRow bytes k = number bytes (8 * k) 8
+tableRow = rowFrom 0

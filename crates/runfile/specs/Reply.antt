@@ -1,7 +1,7 @@
 -- The whole replies of the readers, and the last contents of the lent slice. A refused read writes nothing and gives 0 for all
 -- but the refusal's number.
 use Prim.Native.Nat.{ℕ, _*_}
-use mathlib.Core.Bool.{Bool, cond, not, _&&_}
+use mathlib.Core.Bool.{cond, not, _&&_}
 use mathlib.Core.List.{List, [], _∷_, _++_}
 use lib.Dec.{eqb, ltb}
 use lib.ListN.{length, drop}
@@ -13,10 +13,9 @@ use Rattle.runfile.specs.declared.Heading.{Heading}
 use Rattle.runfile.specs.File.{marked, versionOf, nOf, tByte, faultyOf, tOf, headingBytes, headingRow, tableRow}
 
 -- the heading reader's refusals: 1, 2, 3, 4, 5 (255 passes), 6, 8, 9, 10; `room` is the length of the lent slice
-unfoldable pub headingRefusal : List ℕ → ℕ → ℕ
-headingRefusal bytes room =
-    firstOf
-    (refuse 1 (ltb (length bytes) 9) ∷
+unfoldable pub headingTests : List ℕ → ℕ → List Refusal
+headingTests bytes room =
+    refuse 1 (ltb (length bytes) 9) ∷
     refuse 2 (not (marked bytes)) ∷
     refuse 3 (not (eqb (versionOf bytes) 1)) ∷
     refuse 4 (outside (nOf bytes)) ∷
@@ -25,32 +24,40 @@ headingRefusal bytes room =
     refuse 8 (ltb (length bytes) (headingBytes (nOf bytes))) ∷
     refuse 9 (soundZero (nOf bytes) (faultyOf bytes) (build (nOf bytes) (headingRow bytes))) ∷
     refuse 10 (ltb room (nOf bytes)) ∷
-    [])
+    []
+
+unfoldable pub headingRefusal : List ℕ → ℕ → ℕ
+headingRefusal bytes room = firstOf (headingTests bytes room)
 
 -- the table reader's refusals: 4, 8, 10
-unfoldable pub tableRefusal : ℕ → List ℕ → ℕ → ℕ
-tableRefusal n bytes room =
-    firstOf
-    (refuse 4 (outside n) ∷
+unfoldable pub tableTests : ℕ → List ℕ → ℕ → List Refusal
+tableTests n bytes room =
+    refuse 4 (outside n) ∷
     refuse 8 (not (eqb (length bytes) (8 * tableRows n))) ∷
     refuse 10 (ltb room (tableRows n)) ∷
-    [])
+    []
 
-unfoldable pub nothingRead : ℕ → Heading
-nothingRead refusal = record { refusal = refusal; version = 0; n = 0; t = 0; faulty = 0 }
+unfoldable pub tableRefusal : ℕ → List ℕ → ℕ → ℕ
+tableRefusal n bytes room = firstOf (tableTests n bytes room)
 
--- version, n, t (the number that 255 stands for) and the faulty set
-unfoldable pub headingReply : List ℕ → ℕ → Heading
-headingReply bytes room =
-    cond (eqb (headingRefusal bytes room) 0)
-    (record {
+-- what a heading says: version, n, t (the number that 255 stands for) and the faulty set
+unfoldable pub headingOf : List ℕ → Heading
+headingOf bytes =
+    record {
       refusal = 0;
       version = versionOf bytes;
       n = nOf bytes;
       t = tOf (nOf bytes) (tByte bytes);
       faulty = faultyOf bytes;
-    })
-    (nothingRead (headingRefusal bytes room))
+    }
+
+unfoldable pub nothingRead : ℕ → Heading
+nothingRead refusal = record { refusal = refusal; version = 0; n = 0; t = 0; faulty = 0 }
+
+-- the heading reader's reply
+unfoldable pub headingReply : List ℕ → ℕ → Heading
+headingReply bytes room =
+    cond (eqb (headingRefusal bytes room) 0) (headingOf bytes) (nothingRead (headingRefusal bytes room))
 
 -- n numbers written at the front of a slice, the rest of which stays
 unfoldable pub front : ℕ → (ℕ → ℕ) → List ℕ → List ℕ

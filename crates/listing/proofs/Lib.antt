@@ -1,0 +1,5 @@
+-- What belongs to no one function.
+pub mod Decimal
+pub mod Placed
+pub mod Lines
+pub mod Laws

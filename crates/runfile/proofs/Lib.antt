@@ -1,0 +1,4 @@
+-- What belongs to no one function.
+pub mod Numbers
+pub mod Front
+pub mod Laws

@@ -1,0 +1,51 @@
+-- `runfile::number2` meets its contract: the definition is the same sum. Assumes nothing.
+use mathlib.Core.Path.{ap}
+use Prim.Native.Nat.{ℕ}
+use native.Mathlib.Nat.{add-zero}
+use native.Mathlib.Omega.{arith}
+use lib.ListN.{getD}
+use Rattle.runfile.specs.File.{number}
+use borrow.Author.Needs.{needs}
+use Rattle.runfile.proofs.number2.Statement.{statement}
+use Rattle.runfile.proofs.number2.Tie as tie
+
+shared-slice-read-wide : tie.Need-shared-slice-read-wide
+shared-slice-read-wide c = search needs
+
+wide-requires : tie.Need-wide-requires
+wide-requires c κs = search needs
+
+add-wide : tie.Need-add-wide
+add-wide c = search needs
+
+shared-slice-read-wide-2 : tie.Need-shared-slice-read-wide-2
+shared-slice-read-wide-2 c = search needs
+
+wide-requires-2 : tie.Need-wide-requires-2
+wide-requires-2 c κs = search needs
+
+mul-result : tie.Need-mul-result
+mul-result c = search needs
+
+add-result : tie.Need-add-result
+add-result c = search needs
+
+returns : tie.Need-returns
+unfolding number
+returns c =
+    let bytes = c .before .before .before .before .before .args .bytes .now in
+    let at = c .before .before .before .before .before .args .at in
+    (omega (arith, c .before .before .wide .ensures .0, c .wide2 .ensures .0, ap (λ (m : ℕ). getD bytes m 0) (add-zero at)), search needs)
+
+pub number2-spec : {M : Type 1} → statement M
+number2-spec =
+    tie.close
+    (tie.spec
+    shared-slice-read-wide
+    wide-requires
+    add-wide
+    shared-slice-read-wide-2
+    wide-requires-2
+    mul-result
+    add-result
+    returns)

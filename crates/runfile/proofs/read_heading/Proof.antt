@@ -1,0 +1,75 @@
+-- `runfile::read_heading` meets its contract: the refusal is made first, and a heading that is not refused has room for its rows in
+-- the bytes and in the slice. Assumes nothing.
+use mathlib.Core.Path.{_≡_, sym, ap, _∙_}
+use Prim.Native.Nat.{ℕ}
+use native.Mathlib.Omega.{arith}
+use lib.ListN.{length}
+use Rattle.sizes.proofs.Laws.{inside-high}
+use Rattle.runfile.specs.declared.Heading.{Heading}
+use Rattle.runfile.specs.File.{nOf, headingBytes, headingRow}
+use Rattle.runfile.specs.Reply.{headingRefusal, nothingRead, headingOf, front}
+use Rattle.runfile.proofs.Laws.{Accepted, heading-accepted, heading-refused, heading-leaves, heading-given, heading-written}
+use borrow.Author.Needs.{needs}
+use Rattle.runfile.proofs.read_heading.Statement.{statement}
+use Rattle.runfile.proofs.read_heading.Tie as tie
+
+abbrev start-of : tie.Else1 → tie.Start
+start-of c = c .before .before .before .before
+
+none : (c : tie.Else1) → headingRefusal (start-of c .args .bytes .now) (length (start-of c .args .rows .now)) ≡ 0
+none c = sym (c .before .heading-refusal .ensures) ∙ c .if1 .left
+
+-- what the heading passed
+read : (c : tie.Else1) → Accepted (start-of c .args .bytes .now) (length (start-of c .args .rows .now))
+read c = heading-accepted _ _ (none c)
+
+n-of : (c : tie.After-heading-of) → c .heading-of .result .n ≡ nOf (c .before .before .before .before .before .args .bytes .now)
+unfolding headingOf
+n-of c = ap (λ (h : Heading). h .n) (c .heading-of .ensures)
+
+heading-refusal-requires : tie.Need-heading-refusal-requires
+heading-refusal-requires c κs = search needs
+
+returns : tie.Need-returns
+unfolding nothingRead
+returns c =
+    let e = c .before .heading-refusal .ensures in (
+      ap nothingRead e ∙ sym (heading-refused _ (c .before .before .before .before .args .rows .now) (λ z. c .if1 .taken (e ∙ z))),
+      sym (heading-leaves _ _ (λ z. c .if1 .taken (e ∙ z))),
+    )
+
+heading-of-requires : tie.Need-heading-of-requires
+heading-of-requires c κs = (read c .long, read c .inside)
+
+cast-write-rows : tie.Need-cast-write-rows
+cast-write-rows c = omega (arith, n-of (c .before), inside-high _ (read (c .before .before) .inside))
+
+write-rows-requires : tie.Need-write-rows-requires
+unfolding headingBytes
+write-rows-requires c κs = omega (arith, n-of (c .before .before), read (c .before .before .before) .whole, read (c .before .before .before) .enough)
+
+same-length : tie.Need-same-length
+same-length c = search needs
+
+returns-2 : tie.Need-returns-2
+unfolding headingRow
+returns-2 c =
+    let bytes = c .before .before .before .before .before .before .before .before .before .before .args .bytes .now in
+    let rows = c .before .before .before .before .before .before .before .before .before .before .args .rows .now in (
+      c .before .before .before .before .before .heading-of .ensures ∙ sym (heading-given bytes rows (none (c .before .before .before .before .before .before))),
+      c .before .before .write-rows .ensures
+          ∙ ap (λ (n : ℕ). front n (headingRow bytes) rows) (n-of (c .before .before .before .before .before))
+          ∙ sym (heading-written bytes rows (none (c .before .before .before .before .before .before))),
+    )
+
+pub read-heading-spec : {M : Type 1} → statement M
+read-heading-spec =
+    tie.close
+    (tie.spec
+    heading-refusal-requires
+    returns
+    heading-of-requires
+    cast-write-rows
+    write-rows-requires
+    same-length
+    returns-2)

@@ -1,0 +1,83 @@
+-- `runfile::table_refusal` meets its contract: it makes the tests of refusals 4, 8 and 10 in their order. Assumes nothing.
+use mathlib.Core.Path.{_≡_, sym, ap, _∙_}
+use mathlib.Core.Bool.{false}
+use mathlib.Core.List.{[]}
+use Prim.Native.Nat.{ℕ, _*_}
+use native.Mathlib.Omega.{arith}
+use lib.Dec.{ltb}
+use lib.ListN.{drop}
+use borrow.Author.Tests.{eq-eqb, ne-eqb, lt-ltb, le-ltb}
+use Rattle.counting.specs.Refuse.{firstOf}
+use Rattle.counting.proofs.Bools.{not-of-true, not-of-false}
+use Rattle.counting.proofs.Refuse.{refused, passed}
+use Rattle.sizes.specs.Sizes.{outside, tableRows}
+use Rattle.sizes.proofs.Laws.{by-n-inside}
+use Rattle.runfile.specs.Reply.{tableTests, tableRefusal}
+use Rattle.runfile.proofs.Laws.{table-rows-most}
+use borrow.Author.Needs.{needs}
+use Rattle.runfile.proofs.table_refusal.Statement.{statement}
+use Rattle.runfile.proofs.table_refusal.Tie as tie
+
+-- the tests up to a place of the list are passed
+abbrev Passed : tie.Start → ℕ → Type 0
+Passed s k =
+    tableRefusal (s .args .n) (s .args .bytes .now) (s .args .room)
+    ≡ firstOf (drop k (tableTests (s .args .n) (s .args .bytes .now) (s .args .room)))
+
+inside-of : (c : tie.Else1) → outside (c .before .before .before .args .n) ≡ false
+inside-of c = sym (c .before .is-outside .ensures) ∙ c .if1 .left
+
+-- inside 1 to 13 the table by n is the formula
+rows-of : (c : tie.After-table-rows) → c .table-rows .result ≡ tableRows (c .before .before .before .before .args .n)
+rows-of c = c .table-rows .ensures ∙ by-n-inside tableRows _ (inside-of (c .before))
+
+passed-4 : (c : tie.Else1) → Passed (c .before .before .before) 1
+unfolding tableRefusal tableTests
+passed-4 c = passed 4 _ (inside-of c)
+
+passed-8 : (c : tie.Else2) → Passed (c .before .before .before .before .before) 2
+unfolding tableTests
+passed-8 c =
+    passed-4 (c .before .before) ∙ passed 8 _ (not-of-true (eq-eqb _ _ (c .if2 .left ∙ ap (λ (m : ℕ). 8 * m) (rows-of (c .before)))))
+
+is-outside-requires : tie.Need-is-outside-requires
+is-outside-requires c κs = search needs
+
+returns : tie.Need-returns
+unfolding tableRefusal tableTests
+returns c = sym (refused 4 _ (sym (c .before .is-outside .ensures) ∙ c .if1 .taken))
+
+table-rows-requires : tie.Need-table-rows-requires
+table-rows-requires c κs = search needs
+
+mul-if2 : tie.Need-mul-if2
+mul-if2 c = omega (arith, rows-of c, table-rows-most _ (inside-of (c .before)))
+
+returns-2 : tie.Need-returns-2
+unfolding tableRefusal tableTests
+returns-2 c =
+    sym
+    (passed-4 (c .before .before)
+    ∙ refused 8 _ (not-of-false (ne-eqb _ _ (λ e. c .if2 .taken (e ∙ ap (λ (m : ℕ). 8 * m) (sym (rows-of (c .before))))))))
+
+returns-3 : tie.Need-returns-3
+unfolding tableRefusal tableTests
+returns-3 c =
+    sym (passed-8 (c .before) ∙ refused 10 _ (ap (ltb _) (sym (rows-of (c .before .before))) ∙ lt-ltb _ _ (c .if3 .taken)))
+
+returns-4 : tie.Need-returns-4
+unfolding tableTests firstOf
+returns-4 c =
+    sym (passed-8 (c .before) ∙ passed 10 [] (ap (ltb _) (sym (rows-of (c .before .before))) ∙ le-ltb _ _ (c .if3 .left)))
+
+pub table-refusal-spec : {M : Type 1} → statement M
+table-refusal-spec =
+    tie.close
+    (tie.spec
+    is-outside-requires
+    returns
+    table-rows-requires
+    mul-if2
+    returns-2
+    returns-3
+    returns-4)
