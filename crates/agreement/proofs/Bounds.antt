@@ -17,7 +17,7 @@ use Rattle.gradecast.specs.Steps.{place1, placeFrom, place2, place3, sends, hea
 use Rattle.gradecast.specs.Fair.{faultyBoxes}
 use Rattle.gradecast.proofs.Grades.{positive}
 use Rattle.run.specs.Iteration.{gradedRows, confidences, newRow, newList, entry, nextRun}
-use Rattle.run.specs.State.{startRow, startRefusal, startRun, startReply, badPlace, tooManySent, iterateRefusal, iterateReply, after}
+use Rattle.run.specs.State.{startRow, startRefusal, startRun, startReply, badPlace, badEntry, tooManySent, iterateRefusal, iterateReply, after}
 use Rattle.run.proofs.Accepted.{is-start-accepted, rows-not-zero}
 use Rattle.agreement.specs.Demand.{iterations, Setting}
 use Rattle.agreement.specs.Bounds.{BoundsNeeded, three, two, splitting}
@@ -39,7 +39,7 @@ start-setting n t faulty rows tables e few sized =
     }
 
 pub bounds-needed : BoundsNeeded
-unfolding sum count any build find member setOf places support before best most firstOf outside tooMany stray tableRows carried voteOf supportOf confidenceAt confidenceOf gradedRow counted chosenRow sound place1 placeFrom place2 place3 sends hears heard1 heard2 column2 voted heard3 column3 confidence gradeRow sentTo messages gradedRows confidences newRow newList entry nextRun soundZero startRow startRefusal startRun startReply badPlace tooManySent iterateRefusal iterateReply after
+unfolding sum count any build find member setOf places support before best most firstOf outside tooMany stray tableRows carried voteOf supportOf confidenceAt confidenceOf gradedRow counted chosenRow sound place1 placeFrom place2 place3 sends hears heard1 heard2 column2 voted heard3 column3 confidence gradeRow sentTo messages gradedRows confidences newRow newList entry nextRun soundZero startRow startRefusal startRun startReply badPlace badEntry tooManySent iterateRefusal iterateReply after
 bounds-needed =
     record {
       too-few-iterations =

@@ -20,8 +20,9 @@ use Rattle.sizes.specs.Sizes.{outside, tooMany, stray, soundZero, tableRows, la
 use Rattle.sizes.proofs.Laws.{inside-low, inside-high, tolerated, tolerated-lt, largest-tolerated}
 use Rattle.runfile.specs.declared.Heading.{Heading}
 use Rattle.runfile.specs.File.{marked, versionOf, nOf, tByte, tOf, faultyOf, headingBytes, headingRow, tableRow}
-use Rattle.runfile.specs.Reply.{headingTests, headingRefusal, headingOf, nothingRead, headingReply, headingWrites, tableTests, tableRefusal, tableWrites, front}
-use Rattle.runfile.proofs.Front.{front-length}
+use Rattle.counting.specs.Count.{front}
+use Rattle.runfile.specs.Reply.{headingTests, headingRefusal, headingOf, nothingRead, headingReply, headingWrites, tableTests, tableRefusal, tableWrites}
+use Rattle.counting.proofs.Build.{front-length}
 
 -- no table has more rows than that of 13 boxes
 above : ℕ → Bool

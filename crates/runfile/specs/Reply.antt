@@ -5,7 +5,7 @@ use mathlib.Core.Bool.{cond, not, _&&_}
 use mathlib.Core.List.{List, [], _∷_, _++_}
 use lib.Dec.{eqb, ltb}
 use lib.ListN.{length, drop}
-use Rattle.counting.specs.Count.{build}
+use Rattle.counting.specs.Count.{build, front}
 use Rattle.counting.specs.Refuse.{Refusal, firstOf}
 use Rattle.counting.specs.Refuse.Refusal.{refuse}
 use Rattle.sizes.specs.Sizes.{outside, tooMany, stray, soundZero, tableRows}
@@ -58,10 +58,6 @@ nothingRead refusal = record { refusal = refusal; version = 0; n = 0; t = 0; fau
 unfoldable pub headingReply : List ℕ → ℕ → Heading
 headingReply bytes room =
     cond (eqb (headingRefusal bytes room) 0) (headingOf bytes) (nothingRead (headingRefusal bytes room))
-
--- n numbers written at the front of a slice, the rest of which stays
-unfoldable pub front : ℕ → (ℕ → ℕ) → List ℕ → List ℕ
-front n f slice = build n f ++ drop n slice
 
 -- the slice after the heading reader: the n rows at the front, faulty boxes' rows as they stand
 unfoldable pub headingWrites : List ℕ → List ℕ → List ℕ

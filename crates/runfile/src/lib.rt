@@ -4,10 +4,10 @@ ghost use mathlib.Core.Bool.{false, not, _&&_};
 ghost use Prim.Native.Nat.{_+_, _*_, _≤_, _<_};
 ghost use lib.Dec.{eqb};
 ghost use lib.ListN.{length};
-ghost use Rattle.counting.specs.Count.{build};
+ghost use Rattle.counting.specs.Count.{build, front};
 ghost use Rattle.sizes.specs.Sizes.{outside, tooMany, stray, sound, soundZero};
 ghost use Rattle.runfile.specs.File.{number, marked, nOf, tOf, headingBytes, rowFrom, headingRow};
-ghost use Rattle.runfile.specs.Reply.{headingRefusal, headingOf, headingReply, headingWrites, tableRefusal, tableWrites, front};
+ghost use Rattle.runfile.specs.Reply.{headingRefusal, headingOf, headingReply, headingWrites, tableRefusal, tableWrites};
 
 // The reply of the heading reader: the refusal's number, or 0 with what the heading says.
 pub struct Heading {

@@ -7,7 +7,8 @@ use lib.ListN.{length}
 use Rattle.sizes.proofs.Laws.{inside-high}
 use Rattle.runfile.specs.declared.Heading.{Heading}
 use Rattle.runfile.specs.File.{nOf, headingBytes, headingRow}
-use Rattle.runfile.specs.Reply.{headingRefusal, nothingRead, headingOf, front}
+use Rattle.counting.specs.Count.{front}
+use Rattle.runfile.specs.Reply.{headingRefusal, nothingRead, headingOf}
 use Rattle.runfile.proofs.Laws.{Accepted, heading-accepted, heading-refused, heading-leaves, heading-given, heading-written}
 use borrow.Author.Needs.{needs}
 use Rattle.runfile.proofs.read_heading.Statement.{statement}

@@ -7,7 +7,8 @@ use lib.ListN.{length}
 use Rattle.sizes.specs.Sizes.{tableRows}
 use Rattle.sizes.proofs.Laws.{by-n-inside}
 use Rattle.runfile.specs.File.{tableRow}
-use Rattle.runfile.specs.Reply.{tableRefusal, front}
+use Rattle.counting.specs.Count.{front}
+use Rattle.runfile.specs.Reply.{tableRefusal}
 use Rattle.runfile.proofs.Laws.{TableAccepted, table-accepted, table-leaves, table-written}
 use borrow.Author.Needs.{needs}
 use Rattle.runfile.proofs.read_table.Statement.{statement}

@@ -5,8 +5,8 @@ use Prim.Native.Nat.{_≤_, _-_}
 use native.Mathlib.Omega.{arith}
 use lib.ListN.{length}
 use Rattle.runfile.specs.File.{rowFrom}
-use Rattle.runfile.specs.Reply.{front}
-use Rattle.runfile.proofs.Front.{front-none, front-turn, front-length}
+use Rattle.counting.specs.Count.{front}
+use Rattle.counting.proofs.Build.{front-none, front-turn, front-length}
 use borrow.Author.Needs.{needs}
 use Rattle.runfile.proofs.write_rows.Statement.{statement}
 use Rattle.runfile.proofs.write_rows.Tie as tie
@@ -46,7 +46,7 @@ loop-less c = search needs
 
 loop-again : tie.Need-loop-again Inv-loop μ-loop
 unfolding rowFrom
-loop-again c = (search needs, front-turn _ _ _ _ _ (search needs) (c .before .before .loop .inv .1) (c .number8 .ensures))
+loop-again c = (search needs, front-turn _ _ _ _ (search needs) (c .before .before .loop .inv .1) (c .number8 .ensures))
 
 same-length : tie.Need-same-length Inv-loop μ-loop
 same-length c =
