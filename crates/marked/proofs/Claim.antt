@@ -1,19 +1,26 @@
+-- The one claim over the marked cases: the definitions compute to what the document prints. The line that is marked for every
+-- slice, that confidence 1 never arises when t is 0, is the law beside it.
+-- Assumes nothing.
 use mathlib.Core.Path.{_≡_, refl}
-use mathlib.Core.List.{List, [], _∷_, _++_}
-use lib.ListN.{take, set, replicate}
-use Prim.Native.Nat.{ℕ, _+_, _*_}
+use mathlib.Core.List.{List}
+use Prim.Native.Nat.{ℕ}
 use Rattle.counting.specs.Count.{sum, count, any, build, find}
 use Rattle.counting.specs.Sets.{member, setOf}
 use Rattle.counting.specs.Most.{places, support, before, best, most}
 use Rattle.counting.specs.Refuse.{firstOf}
-use Rattle.sizes.specs.Sizes.{outside, tooMany, stray, tableRows}
-use Rattle.tally.specs.Tally.{carried, voteOf, twoRows, supportOf, confidenceOf, gradedRow, counted, chosenRow}
+use Rattle.sizes.specs.Sizes.{outside, tooMany, stray, sound, soundZero, tableRows}
+use Rattle.tally.specs.Tally.{carried, voteOf, twoRows, supportOf, confidenceAt, confidenceOf, gradedRow, counted, chosenRow}
 use Rattle.tally.specs.Reply.{voteRefusal, gradeRefusal, unless, voteReply, gradeReply}
-use Rattle.gradecast.specs.Steps.{sound, place1, place2, place3, sends, hears, heard1, heard2, column2, voted, heard3, column3, confidence, gradeRow, sentTo, messages}
-use Rattle.run.specs.Iteration.{gradedRows, confidences, newRow, newList, entry, nextRun}
-use Rattle.run.specs.State.{soundZero, startRow, startRefusal, startRun, startReply, badPlace, tooManySent, iterateRefusal, iterateReply, after}
-use Rattle.marked.specs.Cases.{shown, startOfS, tablesOfS}
+use Rattle.tally.proofs.Laws.{never-1}
+use Rattle.gradecast.specs.Steps.{place1, placeFrom, place2, place3, sends, hears, heard1, heard2, column2, voted, heard3, column3, confidence, gradeRow, sentTo, messages}
+use Rattle.run.specs.Iteration.{entry, gradedRows, confidences, newRow, newList, nextRun}
+use Rattle.run.specs.State.{startRow, startRefusal, startRun, startReply, badEntry, badPlace, tooManySent, iterateRefusal, iterateReply, after}
+use Rattle.marked.specs.Cases.{Hold, marked}
 
-caseS : shown (after startOfS tablesOfS 1) ≡ 0 ∷ 100 ∷ 10 ∷ 20 ∷ 10 ∷ 0 ∷ 8 ∷ 8 ∷ 8 ∷ 0 ∷ []
-unfolding sum count any build find member setOf places support before best most firstOf outside tooMany stray tableRows carried voteOf twoRows supportOf confidenceOf gradedRow counted chosenRow voteRefusal gradeRefusal unless voteReply gradeReply sound place1 place2 place3 sends hears heard1 heard2 column2 voted heard3 column3 confidence gradeRow sentTo messages gradedRows confidences newRow newList entry nextRun soundZero startRow startRefusal startRun startReply badPlace tooManySent iterateRefusal iterateReply after
-caseS = refl
+pub marked-hold : Hold marked
+unfolding sum count any build find member setOf places support before best most firstOf outside tooMany stray sound soundZero tableRows carried voteOf twoRows supportOf confidenceAt confidenceOf gradedRow counted chosenRow voteRefusal gradeRefusal unless voteReply gradeReply place1 placeFrom place2 place3 sends hears heard1 heard2 column2 voted heard3 column3 confidence gradeRow sentTo messages entry gradedRows confidences newRow newList nextRun startRow startRefusal startRun startReply badEntry badPlace tooManySent iterateRefusal iterateReply after
+marked-hold =
+    (refl, (refl, (refl, (refl, (refl, (refl, (refl, (refl, (refl, (refl, (refl, (refl, (refl, (refl, (refl, (refl, (refl, (refl, tt))))))))))))))))))
+
+pub confidence-1-needs-t : (xs : List ℕ) → confidenceOf 0 xs ≡ 1 → ⊥
+confidence-1-needs-t xs = never-1 xs

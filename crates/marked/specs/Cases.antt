@@ -1,6 +1,6 @@
 -- The marked cases of document 01, "Both sides of each threshold", as one list: what the definitions give, and the numbers
--- that the document prints.
-use Prim.Native.Nat.{ℕ, zero, suc, _+_, _*_}
+-- that the document prints. Boxes count from 0 here.
+use Prim.Native.Nat.{ℕ, zero, suc}
 use mathlib.Core.Path.{_≡_}
 use mathlib.Core.List.{List, [], _∷_, _++_}
 use lib.ListN.{take, set, replicate}
@@ -20,11 +20,11 @@ abbrev pub Hold : List Case → Type 0
 Hold [] = Unit
 Hold (Case.gives got printed ∷ rest) = (got ≡ printed) × Hold rest
 
--- the reply after m iterations: refusal, messages, then the rows and the lists of boxes 1 to n
+-- a reply in numbers: the refusal, the messages sent so far, then the rows and the lists of boxes 1 to n
 abbrev pub shown : Next → List ℕ
 shown r = r .refusal ∷ r .run .sent ∷ take (r .run .n) (r .run .rows) ++ take (r .run .n) (r .run .lists)
 
--- what box i makes of leader k, both counted from 0: row and confidence
+-- what box i makes of leader k: row and confidence
 abbrev pub graded : Run → List ℕ → ℕ → ℕ → List ℕ
 graded s table i k =
     gradeRow (s .n) (s .t) (s .faulty) (s .rows) (s .lists) table i k ∷
@@ -32,8 +32,8 @@ graded s table i k =
     []
 
 -- a table in which nothing is sent
-abbrev pub silent : ℕ → List ℕ
-silent n = replicate (tableRows n) 0
+abbrev pub silent : ℕ → ℕ → List ℕ
+silent n m = replicate (tableRows n) 0
 
 -- case S: box 4 sends, all for leader 4, in step 1 20 to boxes 1 and 2 and 99 to box 3, in step 2 20 to box 1 and 99 to box 2,
 -- in step 3 20 to box 2
@@ -41,7 +41,7 @@ abbrev pub liesOfS : List ℕ
 liesOfS =
     set
     (set
-    (set (set (set (set (silent 4) (place1 4 3 0) 20) (place1 4 3 1) 20) (place1 4 3 2) 99) (place2 4 3 0 3) 20)
+    (set (set (set (set (silent 4 0) (place1 4 3 0) 20) (place1 4 3 1) 20) (place1 4 3 2) 99) (place2 4 3 0 3) 20)
     (place2 4 3 1 3)
     99)
     (place3 4 3 1 3)
@@ -50,7 +50,54 @@ liesOfS =
 -- in iteration 1 box 4 lies, in iteration 2 it is silent
 abbrev pub tablesOfS : ℕ → List ℕ
 tablesOfS zero = liesOfS
-tablesOfS (suc m) = silent 4
+tablesOfS (suc m) = silent 4 m
 
-abbrev pub startOfS : Next
-startOfS = startReply 4 1 8 (10 ∷ 20 ∷ 30 ∷ 0 ∷ [])
+abbrev pub caseS : ℕ → Next
+caseS = after (startReply 4 1 8 (10 ∷ 20 ∷ 30 ∷ 0 ∷ [])) tablesOfS
+
+-- a run with boxes that say nothing in the faulty places
+abbrev pub quiet : ℕ → ℕ → ℕ → List ℕ → ℕ → Next
+quiet n t faulty rows = after (startReply n t faulty rows) (silent n)
+
+-- row and confidence of a grade over n rows of which so many hold 6 and the others nothing
+abbrev pub gradeBy : ℕ → ℕ → ℕ → List ℕ
+gradeBy t support others =
+    gradeReply (replicate support 6 ++ replicate others 0) t .row ∷
+    gradeReply (replicate support 6 ++ replicate others 0) t .confidence ∷
+    []
+
+-- refusal and row of a vote
+abbrev pub voteBy : ℕ → List ℕ → List ℕ
+voteBy t rows = voteReply rows t .refusal ∷ voteReply rows t .row ∷ []
+
+abbrev pub marked : List Case
+marked =
+    -- case S: messages 100, then 84 more; all but box 2 hold 10 after iteration 1, all after iteration 2
+    Case.gives (shown (caseS 1)) (0 ∷ 100 ∷ 10 ∷ 20 ∷ 10 ∷ 0 ∷ 8 ∷ 8 ∷ 8 ∷ 0 ∷ []) ∷
+    Case.gives (shown (caseS 2)) (0 ∷ 184 ∷ 10 ∷ 10 ∷ 10 ∷ 0 ∷ 8 ∷ 8 ∷ 8 ∷ 0 ∷ []) ∷
+    -- box 2 grades leader 4 with 20 at confidence 1, boxes 1 and 3 with confidence 0
+    Case.gives (graded (caseS 0 .run) liesOfS 1 3) (20 ∷ 1 ∷ []) ∷
+    Case.gives (graded (caseS 0 .run) liesOfS 0 3) (0 ∷ 0 ∷ []) ∷
+    Case.gives (graded (caseS 0 .run) liesOfS 2 3) (0 ∷ 0 ∷ []) ∷
+    -- rows 50, 50, 50, box 4 silent: 84 and 84 messages
+    Case.gives (shown (quiet 4 1 8 (50 ∷ 50 ∷ 50 ∷ 0 ∷ []) 1)) (0 ∷ 84 ∷ 50 ∷ 50 ∷ 50 ∷ 0 ∷ 8 ∷ 8 ∷ 8 ∷ 0 ∷ []) ∷
+    Case.gives (shown (quiet 4 1 8 (50 ∷ 50 ∷ 50 ∷ 0 ∷ []) 2)) (0 ∷ 168 ∷ 50 ∷ 50 ∷ 50 ∷ 0 ∷ 8 ∷ 8 ∷ 8 ∷ 0 ∷ []) ∷
+    -- the same with rows 10, 20, 30: all end with 10
+    Case.gives (shown (quiet 4 1 8 (10 ∷ 20 ∷ 30 ∷ 0 ∷ []) 2)) (0 ∷ 168 ∷ 10 ∷ 10 ∷ 10 ∷ 0 ∷ 8 ∷ 8 ∷ 8 ∷ 0 ∷ []) ∷
+    -- no faulty box, rows 7, 7, 9, 9: all end with 7, lists 0, 288 messages
+    Case.gives (shown (quiet 4 1 0 (7 ∷ 7 ∷ 9 ∷ 9 ∷ []) 2)) (0 ∷ 288 ∷ 7 ∷ 7 ∷ 7 ∷ 7 ∷ 0 ∷ 0 ∷ 0 ∷ 0 ∷ []) ∷
+    -- n = 1, t = 0, row 5: one iteration, row 5, 3 messages
+    Case.gives (shown (quiet 1 0 0 (5 ∷ []) 1)) (0 ∷ 3 ∷ 5 ∷ 0 ∷ []) ∷
+    -- grade, n = 7, t = 2: support 2, 3, 4, 5 gives 0, 1, 1, 2
+    Case.gives (gradeBy 2 2 5) (0 ∷ 0 ∷ []) ∷
+    Case.gives (gradeBy 2 3 4) (6 ∷ 1 ∷ []) ∷
+    Case.gives (gradeBy 2 4 3) (6 ∷ 1 ∷ []) ∷
+    Case.gives (gradeBy 2 5 2) (6 ∷ 2 ∷ []) ∷
+    -- grade, n = 5, t = 1: support 3 gives 2, though n − t is 4
+    Case.gives (gradeBy 1 3 2) (6 ∷ 2 ∷ []) ∷
+    -- grade, n = 3, t = 0: support 1 gives 2
+    Case.gives (gradeBy 0 1 2) (6 ∷ 2 ∷ []) ∷
+    -- vote, n = 4, t = 1: rows 6, 6, 0, 6 give 6; rows 6, 6, 0, 0 give 0
+    Case.gives (voteBy 1 (6 ∷ 6 ∷ 0 ∷ 6 ∷ [])) (0 ∷ 6 ∷ []) ∷
+    Case.gives (voteBy 1 (6 ∷ 6 ∷ 0 ∷ 0 ∷ [])) (0 ∷ 0 ∷ []) ∷
+    []
