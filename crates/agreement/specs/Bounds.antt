@@ -3,14 +3,10 @@ use Prim.Native.Nat.{ℕ, _+_, _*_, _≤_}
 use mathlib.Core.Path.{_≡_}
 use mathlib.Core.List.{List, [], _∷_}
 use lib.ListN.{getD, set, replicate}
-use Rattle.sizes.specs.Sizes.{tableRows}
 use Rattle.gradecast.specs.Steps.{place1, place2, place3, voted}
+use Rattle.gradecast.specs.Lies.{silent}
 use Rattle.gradecast.specs.Fair.{faultyBoxes, NoSoundListed, SoundRowsNotZero}
 use Rattle.agreement.specs.Demand.{Setting, reply, rowsAfter, confidenceIn}
-
--- a table in which nothing is sent
-abbrev pub silent : ℕ → List ℕ
-silent n = replicate (tableRows n) 0
 
 -- box 3 of 4 sends, all for itself as leader: in step 1 20 to boxes 0 and 1, in step 2 20 to box 0, in step 3 20 to box 1
 abbrev pub splitting : ℕ → List ℕ

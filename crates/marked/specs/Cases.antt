@@ -4,9 +4,9 @@ use Prim.Native.Nat.{ℕ, zero, suc}
 use mathlib.Core.Path.{_≡_}
 use mathlib.Core.List.{List, [], _∷_, _++_}
 use lib.ListN.{take, set, replicate}
-use Rattle.sizes.specs.Sizes.{tableRows}
 use Rattle.tally.specs.Reply.{voteReply, gradeReply}
 use Rattle.gradecast.specs.Steps.{place1, place2, place3, confidence, gradeRow}
+use Rattle.gradecast.specs.Lies.{silent}
 use Rattle.run.specs.declared.Run.{Run}
 use Rattle.run.specs.declared.Next.{Next}
 use Rattle.run.specs.State.{startReply, after}
@@ -31,17 +31,13 @@ graded s table i k =
     confidence (s .n) (s .t) (s .faulty) (s .rows) (s .lists) table i k ∷
     []
 
--- a table in which nothing is sent
-abbrev pub silent : ℕ → ℕ → List ℕ
-silent n m = replicate (tableRows n) 0
-
 -- case S: box 4 sends, all for leader 4, in step 1 20 to boxes 1 and 2 and 99 to box 3, in step 2 20 to box 1 and 99 to box 2,
 -- in step 3 20 to box 2
 abbrev pub liesOfS : List ℕ
 liesOfS =
     set
     (set
-    (set (set (set (set (silent 4 0) (place1 4 3 0) 20) (place1 4 3 1) 20) (place1 4 3 2) 99) (place2 4 3 0 3) 20)
+    (set (set (set (set (silent 4) (place1 4 3 0) 20) (place1 4 3 1) 20) (place1 4 3 2) 99) (place2 4 3 0 3) 20)
     (place2 4 3 1 3)
     99)
     (place3 4 3 1 3)
@@ -50,14 +46,14 @@ liesOfS =
 -- in iteration 1 box 4 lies, in iteration 2 it is silent
 abbrev pub tablesOfS : ℕ → List ℕ
 tablesOfS zero = liesOfS
-tablesOfS (suc m) = silent 4 m
+tablesOfS (suc m) = silent 4
 
 abbrev pub caseS : ℕ → Next
 caseS = after (startReply 4 1 8 (10 ∷ 20 ∷ 30 ∷ 0 ∷ [])) tablesOfS
 
 -- a run with boxes that say nothing in the faulty places
 abbrev pub quiet : ℕ → ℕ → ℕ → List ℕ → ℕ → Next
-quiet n t faulty rows = after (startReply n t faulty rows) (silent n)
+quiet n t faulty rows = after (startReply n t faulty rows) (λ m. silent n)
 
 -- row and confidence of a grade over n rows of which so many hold 6 and the others nothing
 abbrev pub gradeBy : ℕ → ℕ → ℕ → List ℕ
