@@ -29,23 +29,15 @@ pub struct Cast {
     pub confidences: [u8; 169],
 }
 
-// Is box k in the set?
-pub fn is_member(set: u16, k: usize) -> bool
-    requires { ⌜ k < 16 ⌝ }
-    ensures { λ r. ⌜ r ≡ member set k ⌝ }
-{
-    (set >> k) % 2 == 1
-}
-
 // What a box with this list hears from j: nothing from a listed box, the table's row from a faulty one, else j's own row.
 fn hear(list: u16, faulty: u16, table: &[u64], j: usize, place: usize, own: u64) -> u64
     requires { ⌜ (j < 16) × (place < length (now table)) ⌝ }
     ensures { λ r. ⌜ r ≡ hears list j (sends faulty (now (table .entry)) j place own) ⌝ }
 {
-    if is_member(list, j) {
+    if sizes::is_member(list, j) {
         return 0;
     }
-    if is_member(faulty, j) {
+    if sizes::is_member(faulty, j) {
         return table[place];
     }
     own
@@ -80,7 +72,7 @@ fn second_cell(
     requires { ⌜ Ready n (now table) × Among n i k ⌝ }
     ensures { λ r. ⌜ r ≡ ofSound faulty (heard1 n faulty (now (rows .entry)) (now (lists .entry)) (now (table .entry))) i k ⌝ }
 {
-    if is_member(faulty, i) {
+    if sizes::is_member(faulty, i) {
         return 0;
     }
     let place = place_of_first(n, k, i);
@@ -146,7 +138,7 @@ fn third_cell(
     requires { ⌜ Ready n (now table) × Among n i k × (3 * t < n) ⌝ }
     ensures { λ r. ⌜ VoteCell n t faulty (now (lists .entry)) (now (table .entry)) (now (second .entry)) i k r ⌝ }
 {
-    if is_member(faulty, i) {
+    if sizes::is_member(faulty, i) {
         return 0;
     }
     let heard = column(n * n, n, lists[i], faulty, table, second, i, k);
@@ -189,7 +181,7 @@ fn grade_cell(
     requires { ⌜ Ready n (now table) × Among n i k × (3 * t < n) ⌝ }
     ensures { λ r. ⌜ GradeCell n t faulty (now (lists .entry)) (now (table .entry)) (now (third .entry)) i k r ⌝ }
 {
-    if is_member(faulty, i) {
+    if sizes::is_member(faulty, i) {
         return tally::Graded {
             refusal: 0,
             row: 0,
@@ -255,7 +247,7 @@ fn one_if_first(faulty: u16, j: usize, row: u64) -> usize
     requires { ⌜ j < 16 ⌝ }
     ensures { λ r. ⌜ r ≡ cond (sound faulty j && not (eqb row 0)) 1 0 ⌝ }
 {
-    if is_member(faulty, j) {
+    if sizes::is_member(faulty, j) {
         return 0;
     }
     one_if_sent(row)

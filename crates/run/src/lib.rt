@@ -40,14 +40,6 @@ pub struct Next {
     pub run: Run,
 }
 
-// Has the set a bit at place n or above?
-fn is_stray(n: u8, set: u16) -> bool
-    requires { ⌜ n ≤ 13 ⌝ }
-    ensures { λ r. ⌜ r ≡ stray n set ⌝ }
-{
-    (set >> n) != 0
-}
-
 // Refusals 4, 5 and 6, which a start and an iteration share.
 fn setting_refusal(n: u8, t: u8, faulty: u16) -> u8
     ensures { λ r. ⌜ r ≡ settingRefusal n t faulty ⌝ }
@@ -61,7 +53,7 @@ fn setting_refusal(n: u8, t: u8, faulty: u16) -> u8
     if (n as u16) <= 3 * (t as u16) {
         return 5;
     }
-    if is_stray(n, faulty) {
+    if sizes::is_stray(n, faulty) {
         return 6;
     }
     0
@@ -75,18 +67,7 @@ fn is_sound_box(n: u8, faulty: u16, k: usize) -> bool
     if (n as usize) <= k {
         return false;
     }
-    !gradecast::is_member(faulty, k)
-}
-
-// Is the row of box k 0, though the box is sound?
-fn is_sound_zero(faulty: u16, k: usize, row: u64) -> bool
-    requires { ⌜ k < 16 ⌝ }
-    ensures { λ r. ⌜ r ≡ (sound faulty k && eqb row 0) ⌝ }
-{
-    if gradecast::is_member(faulty, k) {
-        return false;
-    }
-    row == 0
+    !sizes::is_member(faulty, k)
 }
 
 // Refusal 9: is some sound box's row 0?
@@ -96,7 +77,7 @@ fn has_sound_zero(n: usize, faulty: u16, rows: &[u64]) -> bool
 {
     let mut k: usize = 0;
     while k < n {
-        if is_sound_zero(faulty, k, rows[k]) {
+        if sizes::is_sound_zero(faulty, k, rows[k]) {
             return true;
         }
         k += 1;
@@ -185,7 +166,7 @@ fn is_bad_place(n: u8, faulty: u16, k: usize, row: u64, list: u16) -> bool
     ensures { λ r. ⌜ r ≡ badEntry n faulty k row list ⌝ }
 {
     if is_sound_box(n, faulty, k) {
-        return is_stray(n, list);
+        return sizes::is_stray(n, list);
     }
     if row != 0 {
         return true;
@@ -273,7 +254,7 @@ fn joins(old: u16, k: usize, confidence: u8) -> bool
 {
     match confidence {
         0..=1 => true,
-        _ => gradecast::is_member(old, k),
+        _ => sizes::is_member(old, k),
     }
 }
 

@@ -104,22 +104,6 @@ fn t_of(n: u8, byte: u8) -> u8
     }
 }
 
-// Refusal 6: has the set a bit at place n or above?
-fn is_stray(n: u8, set: u16) -> bool
-    requires { ⌜ outside n ≡ false ⌝ }
-    ensures { λ r. ⌜ r ≡ stray n set ⌝ }
-{
-    1u16 << n <= set
-}
-
-// Is box k sound, and its row 0?
-fn is_sound_zero(faulty: u16, k: usize, row: u64) -> bool
-    requires { ⌜ k < 13 ⌝ }
-    ensures { λ r. ⌜ r ≡ (sound faulty k && eqb row 0) ⌝ }
-{
-    (faulty >> k) % 2 != 1 && row == 0
-}
-
 // Refusal 9: is some sound box's row 0 in the heading?
 fn has_sound_zero(bytes: &[u8], n: usize, faulty: u16) -> bool
     requires { ⌜ (outside n ≡ false) × (headingBytes n ≤ length (now bytes)) ⌝ }
@@ -127,7 +111,7 @@ fn has_sound_zero(bytes: &[u8], n: usize, faulty: u16) -> bool
 {
     let mut k: usize = 0;
     while k < n {
-        if is_sound_zero(faulty, k, number8(bytes, 9 + 8 * k)) {
+        if sizes::is_sound_zero(faulty, k, number8(bytes, 9 + 8 * k)) {
             return true;
         }
         k += 1;
@@ -156,7 +140,7 @@ fn heading_refusal(bytes: &[u8], room: usize) -> u8
         return 5;
     }
     let faulty = number2(bytes, 7) as u16;
-    if is_stray(n, faulty) {
+    if sizes::is_stray(n, faulty) {
         return 6;
     }
     if bytes.len() < 9 + 8 * (n as usize) {

@@ -1,6 +1,10 @@
-// The two rows of constants by n, for n = 1 to 13, each with its formula in specs/Sizes.antt.
+// What n, t and a set of boxes may be: the two rows of constants by n, and the tests that more than one crate makes.
 ghost use mathlib.Core.Path.{_≡_};
-ghost use Rattle.sizes.specs.Sizes.{byN, largestT, tableRows};
+ghost use mathlib.Core.Bool.{_&&_};
+ghost use Prim.Native.Nat.{_≤_, _<_};
+ghost use lib.Dec.{eqb};
+ghost use Rattle.counting.specs.Sets.{member};
+ghost use Rattle.sizes.specs.Sizes.{stray, sound, byN, largestT, tableRows};
 
 // The largest t with 3t less than n, for n = 1 to 13.
 const LARGEST_T: [u8; 13] = [0, 0, 0, 1, 1, 1, 2, 2, 2, 3, 3, 3, 4];
@@ -40,4 +44,31 @@ pub fn table_rows(n: u8) -> usize
         1..=13 => TABLE_ROWS[(n - 1) as usize],
         _ => 0,
     }
+}
+
+// Is box k in the set?
+pub fn is_member(set: u16, k: usize) -> bool
+    requires { ⌜ k < 16 ⌝ }
+    ensures { λ r. ⌜ r ≡ member set k ⌝ }
+{
+    (set >> k) % 2 == 1
+}
+
+// Refusal 6: has the set a bit at place n or above?
+pub fn is_stray(n: u8, set: u16) -> bool
+    requires { ⌜ n ≤ 13 ⌝ }
+    ensures { λ r. ⌜ r ≡ stray n set ⌝ }
+{
+    (set >> n) != 0
+}
+
+// Is the row of box k 0, though the box is sound?
+pub fn is_sound_zero(faulty: u16, k: usize, row: u64) -> bool
+    requires { ⌜ k < 16 ⌝ }
+    ensures { λ r. ⌜ r ≡ (sound faulty k && eqb row 0) ⌝ }
+{
+    if is_member(faulty, k) {
+        return false;
+    }
+    row == 0
 }

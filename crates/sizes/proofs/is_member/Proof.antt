@@ -1,8 +1,8 @@
--- `gradecast::is_member` meets its contract: the code and the definition test the same bit. Assumes nothing.
+-- `sizes::is_member` meets its contract: the code and the definition test the same bit. Assumes nothing.
 use Rattle.counting.specs.Sets.{member}
 use borrow.Author.Needs.{needs}
-use Rattle.gradecast.proofs.is_member.Statement.{statement}
-use Rattle.gradecast.proofs.is_member.Tie as tie
+use Rattle.sizes.proofs.is_member.Statement.{statement}
+use Rattle.sizes.proofs.is_member.Tie as tie
 
 cast-result : tie.Need-cast-result
 cast-result c = search needs

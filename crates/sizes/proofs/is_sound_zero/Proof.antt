@@ -1,9 +1,9 @@
--- `run::is_sound_zero` meets its contract: a faulty box is passed over, and a sound one by its row. Assumes nothing.
+-- `sizes::is_sound_zero` meets its contract: a faulty box is passed over, and a sound one by its row. Assumes nothing.
 use mathlib.Core.Path.{refl, sym, _∙_}
 use Rattle.sizes.specs.Sizes.{sound}
 use borrow.Author.Needs.{needs}
-use Rattle.run.proofs.is_sound_zero.Statement.{statement}
-use Rattle.run.proofs.is_sound_zero.Tie as tie
+use Rattle.sizes.proofs.is_sound_zero.Statement.{statement}
+use Rattle.sizes.proofs.is_sound_zero.Tie as tie
 
 is-member-requires : tie.Need-is-member-requires
 is-member-requires c κs = search needs
