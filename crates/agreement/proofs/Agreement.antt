@@ -16,7 +16,7 @@ use Rattle.counting.specs.Count.{count}
 use Rattle.counting.specs.Sets.{member}
 use Rattle.counting.proofs.Bools.{cond-true}
 use Rattle.counting.proofs.Sets.{member-empty}
-use Rattle.sizes.specs.Sizes.{tableRows}
+use Rattle.sizes.specs.Sizes.{tableRows, Startable}
 use Rattle.sizes.proofs.Laws.{inside, tolerated, lt-within}
 use Rattle.gradecast.specs.Steps.{confidence}
 use Rattle.gradecast.specs.Fair.{SoundBox, Fair}
@@ -25,7 +25,7 @@ use Rattle.run.specs.declared.Run.{Run}
 use Rattle.run.specs.Iteration.{nextRun}
 use Rattle.run.specs.State.{startRefusal, startRun, startReply, zeros, iterateRefusal, iterateReply, after}
 use Rattle.run.specs.Legal.{Legal}
-use Rattle.run.proofs.Accepted.{StartAccepted, start-accepted-is, accepted-is, not-zero-rows}
+use Rattle.run.proofs.Accepted.{start-accepted-is, accepted-is, not-zero-rows}
 use Rattle.run.proofs.Closed.{start-legal, start-not-zero, next-legal}
 use Rattle.run.proofs.Kept.{start-row, start-list}
 use Rattle.agreement.specs.Demand.{iterations, Setting, AllHold, SameRow, reply, rowsAfter, listsAfter, NotRefused, Agrees, Valid, NeverListed, NeverZero, Promises, SplitsJoin, Demand3}
@@ -54,7 +54,7 @@ next-going {s = s} table g =
     }
 
 module _ (n t faulty : ℕ) (rows : List ℕ) (tables : ℕ → List ℕ) (setting : Setting n t faulty rows tables) where
-  accepted-start : StartAccepted n t faulty rows
+  accepted-start : Startable n t faulty rows
   accepted-start =
       record {
         pass4 = inside n (setting .from-1) (setting .to-13);

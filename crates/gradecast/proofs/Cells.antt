@@ -5,11 +5,12 @@ use mathlib.Core.List.{List}
 use Prim.Native.Nat.{ℕ, _+_, _*_, _/_, _%_, _≤_, _<_}
 use lib.Arith.{digits-div, digits-mod}
 use lib.ListN.{length, getD, replicate, length-replicate}
+use Rattle.sizes.proofs.Laws.{square-le}
 use Rattle.counting.specs.Count.{front}
 use Rattle.counting.proofs.Build.{front-length, front-at}
 use native.Mathlib.Nat.{div-lt-iff-lt-mul, mod-lt}
 use Rattle.gradecast.specs.Cast.{Among, cells}
-use Rattle.gradecast.proofs.Places.{square-le, two-digits}
+use Rattle.gradecast.proofs.Places.{two-digits}
 
 module _ (n : ℕ) (f : ℕ → ℕ → ℕ) where
   pub length-cells : n ≤ 13 → length (cells n f) ≡ 169

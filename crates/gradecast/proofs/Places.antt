@@ -8,17 +8,6 @@ use native.Mathlib.Omega.{arith}
 use lib.Arith.{digits-lt}
 use Rattle.sizes.specs.Sizes.{tableRows}
 
-module _ {n : ℕ} (high : n ≤ 13) where
-  pub square-le : n * n ≤ 169
-  square-le = mul-le-mul high high
-
-  pub cube-le : n * n * n ≤ 2197
-  cube-le = mul-le-mul square-le high
-
-  pub table-le : tableRows n ≤ 4563
-  unfolding tableRows
-  table-le = omega (arith, square-le, cube-le)
-
 module _ {n : ℕ} where
   -- two digits in base n
   pub two-digits : {a b : ℕ} → a < n → b < n → a * n + b < n * n

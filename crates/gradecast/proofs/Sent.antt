@@ -8,6 +8,7 @@ use Prim.Native.Nat.{ℕ, _+_, _*_, _/_, _%_, _≤_, _<_}
 use native.Mathlib.Omega.{arith}
 use lib.Dec.{eqb}
 use lib.ListN.{length, getD, take, replicate}
+use Rattle.sizes.proofs.Laws.{square-le}
 use Rattle.counting.specs.Count.{sum, count, build}
 use Rattle.counting.proofs.Bools.{cond-true, cond-false}
 use Rattle.counting.proofs.Build.{front-take, length-build, getD-build}
@@ -17,7 +18,6 @@ use Rattle.gradecast.specs.declared.Cast.{Cast}
 use Rattle.gradecast.specs.Steps.{heard1, voted, gradeRow, confidence, messages}
 use Rattle.gradecast.specs.Cast.{ofSound, cells, castReply}
 use Rattle.gradecast.proofs.Cells.{length-cells}
-use Rattle.gradecast.proofs.Places.{square-le}
 use Rattle.gradecast.proofs.Messages.{sentByOne, messages-quick}
 
 -- how many numbers of a list are not 0

@@ -12,7 +12,7 @@ use Rattle.counting.specs.Count.{any}
 use Rattle.counting.specs.Refuse.{firstOf}
 use Rattle.counting.proofs.Bools.{not-false, or-false-left, or-false-right}
 use Rattle.counting.proofs.Refuse.{accepted}
-use Rattle.sizes.specs.Sizes.{outside, tooMany, stray, tableRows, soundZero}
+use Rattle.sizes.specs.Sizes.{outside, tooMany, stray, tableRows, soundZero, Startable}
 use Rattle.gradecast.specs.Fair.{SoundRowsNotZero}
 use Rattle.gradecast.proofs.Boxes.{no-sound, sound-none}
 use Rattle.run.specs.declared.Run.{Run}
@@ -67,16 +67,8 @@ module _ (s : Run) (table : List ℕ) where
       )
       refl
 
--- a start that is not refused
-pub record StartAccepted (n t faulty : ℕ) (rows : List ℕ) : Type 0 where
-  pub pass4 : outside n ≡ false
-  pub pass5 : tooMany n t ≡ false
-  pub pass6 : stray n faulty ≡ false
-  pub pass11 : length rows ≡ n
-  pub pass9 : soundZero n faulty rows ≡ false
-
 module _ (n t faulty : ℕ) (rows : List ℕ) where
-  pub is-start-accepted : startRefusal n t faulty rows ≡ 0 → StartAccepted n t faulty rows
+  pub is-start-accepted : startRefusal n t faulty rows ≡ 0 → Startable n t faulty rows
   unfolding startRefusal
   is-start-accepted h0 =
       let h4 = accepted 3 (outside n) _ h0 in
@@ -92,7 +84,7 @@ module _ (n t faulty : ℕ) (rows : List ℕ) where
         pass9 = h9 .0;
       }
 
-  pub start-accepted-is : StartAccepted n t faulty rows → startRefusal n t faulty rows ≡ 0
+  pub start-accepted-is : Startable n t faulty rows → startRefusal n t faulty rows ≡ 0
   unfolding startRefusal firstOf
   start-accepted-is a =
       rw (a .pass4, a .pass5, a .pass6, eq-eqb (length rows) n (a .pass11), a .pass9) refl

@@ -16,7 +16,7 @@ use Rattle.counting.specs.Sets.{member}
 use Rattle.counting.proofs.Bools.{never, not-of-true, or-none, cond-true}
 use Rattle.counting.proofs.Count.{none-any}
 use Rattle.counting.proofs.Sets.{setOf-lt}
-use Rattle.sizes.specs.Sizes.{stray, tableRows, sound}
+use Rattle.sizes.specs.Sizes.{stray, tableRows, sound, Startable}
 use Rattle.sizes.proofs.Laws.{inside-high, lt-within}
 use Rattle.gradecast.specs.Steps.{messages}
 use Rattle.gradecast.specs.Fair.{SoundBox, SoundRowsNotZero}
@@ -27,7 +27,7 @@ use Rattle.run.specs.Iteration.{confidences, newList, nextRun}
 use Rattle.run.specs.State.{badEntry, startRefusal, startRun, startReply, zeros, badPlace, tooManySent, iterateRefusal, iterateReply}
 use Rattle.run.specs.Legal.{Legal}
 use Rattle.run.proofs.Kept.{start-row, start-list, start-unused, next-row, next-list, next-unused, new-row-not-zero}
-use Rattle.run.proofs.Accepted.{StartAccepted, is-accepted, is-start-accepted, rows-not-zero, not-zero-rows}
+use Rattle.run.proofs.Accepted.{is-accepted, is-start-accepted, rows-not-zero, not-zero-rows}
 
 -- refusal 14: what a place must hold
 good-place : (s : Run) (k : ℕ) → (SoundBox (s .n) (s .faulty) k → getD (s .lists) k 0 < 2 ^ s .n) →
@@ -86,7 +86,7 @@ module _ (s : Run) (table : List ℕ) (legal : Legal s) where
       }
 
 -- the state after a start that was not refused
-module _ (n t faulty : ℕ) (rows : List ℕ) (a : StartAccepted n t faulty rows) where
+module _ (n t faulty : ℕ) (rows : List ℕ) (a : Startable n t faulty rows) where
   pub start-not-zero : SoundRowsNotZero n faulty (startRun n t faulty rows .rows)
   start-not-zero k b e =
       rows-not-zero n faulty rows (a .pass9) k b

@@ -11,6 +11,7 @@ use lib.Dec.{eqb, ltb}
 use lib.ListN.{length, getD, take, drop, length-drop}
 use lib.Seq.{getD-take, getD-drop, length-take-le}
 use borrow.Author.Tests.{eq-eqb, ne-eqb}
+use Rattle.sizes.proofs.Laws.{square-le}
 use Rattle.counting.specs.Count.{build}
 use Rattle.counting.specs.Sets.{member, setOf}
 use Rattle.counting.proofs.Bools.{cond-true, cond-false}
@@ -23,7 +24,7 @@ use Rattle.tally.proofs.Taken.{choice-row}
 use Rattle.gradecast.specs.Steps.{gradeRow, confidence}
 use Rattle.gradecast.specs.Cast.{ofSound, cells}
 use Rattle.gradecast.proofs.Cells.{cells-at}
-use Rattle.gradecast.proofs.Places.{two-digits, square-le}
+use Rattle.gradecast.proofs.Places.{two-digits}
 use Rattle.gradecast.proofs.Sound.{of-sound}
 use Rattle.run.specs.declared.Run.{Run}
 use Rattle.run.specs.Grades.{GradesOf, Working, listFrom}

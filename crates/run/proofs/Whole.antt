@@ -13,13 +13,12 @@ use borrow.Author.Tests.{ltb-false}
 use Rattle.counting.specs.Count.{build}
 use Rattle.counting.proofs.Build.{build-ext}
 use Rattle.sizes.specs.Sizes.{sound, tableRows}
-use Rattle.sizes.proofs.Laws.{inside-low, inside-high, tolerated-lt}
+use Rattle.sizes.proofs.Laws.{inside-low, inside-high, tolerated-lt, table-le}
 use Rattle.gradecast.specs.declared.Cast.{Cast}
 use Rattle.gradecast.specs.Steps.{messages}
 use Rattle.gradecast.specs.Cast.{Ready, castReply}
 use Rattle.gradecast.proofs.Cells.{length-cells}
 use Rattle.gradecast.proofs.Messages.{messages-bound}
-use Rattle.gradecast.proofs.Places.{table-le}
 use Rattle.run.specs.declared.Run.{Run}
 use Rattle.run.specs.Grades.{GradesOf, Sized, listFrom}
 use Rattle.run.specs.Iteration.{entry, newRow, newList, nextRun}

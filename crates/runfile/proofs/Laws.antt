@@ -16,27 +16,13 @@ use Rattle.counting.proofs.Bools.{not-false, cond-true, cond-false}
 use Rattle.counting.proofs.Build.{length-build}
 use Rattle.counting.proofs.Count.{any-none}
 use Rattle.counting.proofs.Refuse.{accepted}
-use Rattle.sizes.specs.Sizes.{outside, tooMany, stray, soundZero, tableRows, largestT}
+use Rattle.sizes.specs.Sizes.{Startable, outside, tooMany, stray, soundZero, tableRows, largestT}
 use Rattle.sizes.proofs.Laws.{inside-low, inside-high, tolerated, tolerated-lt, largest-tolerated}
 use Rattle.runfile.specs.declared.Heading.{Heading}
 use Rattle.runfile.specs.File.{marked, versionOf, nOf, tByte, tOf, faultyOf, headingBytes, headingRow, tableRow}
 use Rattle.counting.specs.Count.{front}
 use Rattle.runfile.specs.Reply.{headingTests, headingRefusal, headingOf, nothingRead, headingReply, headingWrites, tableTests, tableRefusal, tableWrites}
 use Rattle.counting.proofs.Build.{front-length}
-
--- no table has more rows than that of 13 boxes
-above : ℕ → Bool
-above k = not (leb (tableRows k) 4563)
-
-none-above : any 14 above ≡ false
-unfolding any tableRows above
-none-above = refl
-
-pub table-rows-most : (n : ℕ) → outside n ≡ false → tableRows n ≤ 4563
-unfolding above
-table-rows-most n h =
-    leb-true (tableRows n) 4563
-    (not-false (leb (tableRows n) 4563) (any-none 14 above none-above n (omega (arith, inside-high n h))))
 
 -- the tests that a heading passed
 pub record Accepted (bytes : List ℕ) (room : ℕ) : Type 0 where
@@ -159,14 +145,6 @@ heading-tolerates bytes room e = go (eqb (tByte bytes) 255) refl
     go true h = largest-tolerated (nOf bytes) (inside-low (nOf bytes) (a .inside))
     go false h = tolerated-lt (nOf bytes) (tByte bytes) (rw h at (a .few))
 
--- what a start takes: it passes refusals 4, 5, 6, 11 and 9
-pub record Startable (n t faulty : ℕ) (rows : List ℕ) : Type 0 where
-  pub inside : outside n ≡ false
-  pub few : tooMany n t ≡ false
-  pub within : stray n faulty ≡ false
-  pub exact : length rows ≡ n
-  pub nonzero : soundZero n faulty rows ≡ false
-
 -- an accepted heading's numbers, with the n rows that were written, are such
 pub heading-startable : (bytes slice : List ℕ) → headingRefusal bytes (length slice) ≡ 0 →
     Startable (nOf bytes) (tOf (nOf bytes) (tByte bytes)) (faultyOf bytes) (take (nOf bytes) (headingWrites bytes slice))
@@ -177,11 +155,11 @@ heading-startable bytes slice e =
     ap (take (nOf bytes)) (heading-written bytes slice e)
     ∙ take-at (build (nOf bytes) (headingRow bytes)) (drop (nOf bytes) slice) (nOf bytes) (length-build (nOf bytes) (headingRow bytes)) in
     record {
-      inside = a .inside;
-      few = tolerated _ _ (heading-tolerates bytes (length slice) e);
-      within = a .within;
-      exact = ap length rows ∙ length-build (nOf bytes) (headingRow bytes);
-      nonzero = ap (soundZero (nOf bytes) (faultyOf bytes)) rows ∙ a .nonzero;
+      pass4 = a .inside;
+      pass5 = tolerated _ _ (heading-tolerates bytes (length slice) e);
+      pass6 = a .within;
+      pass11 = ap length rows ∙ length-build (nOf bytes) (headingRow bytes);
+      pass9 = ap (soundZero (nOf bytes) (faultyOf bytes)) rows ∙ a .nonzero;
     }
 
 -- two replies that meet one contract are equal, and so are two last contents

@@ -6,7 +6,7 @@ use mathlib.Core.Bool.{Bool, true, false, not, cond, _||_}
 use mathlib.Core.List.{List}
 use Prim.Native.Nat.{ℕ, _+_, _-_, _*_, _/_, _^_, _≤_, _<_}
 use mathlib.Core.Logic.{⊎-elim}
-use native.Mathlib.Nat.{div-eq-of-lt, div-lt-iff-lt-mul, not-le-of-lt, one-mul}
+use native.Mathlib.Nat.{div-eq-of-lt, div-lt-iff-lt-mul, mul-le-mul, not-le-of-lt, one-mul}
 use native.Mathlib.Omega.{arith}
 use lib.Pow.{pow-pos}
 use lib.Dec.{eqb, leb, ltb}
@@ -110,3 +110,15 @@ shifted n set = ⊎-elim (λ t. high (leb-true (2 ^ n) set t) ∙ sym t) (λ f. 
 
     low : set < 2 ^ n → not (eqb (set / 2 ^ n) 0) ≡ false
     low h = not-of-true (eq-eqb (set / 2 ^ n) 0 (div-eq-of-lt h))
+
+-- n is at most 13, so a table has at most 4,563 rows
+module _ {n : ℕ} (high : n ≤ 13) where
+  pub square-le : n * n ≤ 169
+  square-le = mul-le-mul high high
+
+  pub cube-le : n * n * n ≤ 2197
+  cube-le = mul-le-mul square-le high
+
+  pub table-le : tableRows n ≤ 4563
+  unfolding tableRows
+  table-le = omega (arith, square-le, cube-le)

@@ -1,9 +1,10 @@
 -- The numbers that document 01 allows: boxes, the tolerated, a set of boxes, the rows of a table. Boxes count from 0 here.
 use Prim.Native.Nat.{ℕ, _+_, _-_, _*_, _/_, _^_}
-use mathlib.Core.Bool.{Bool, cond, not, _&&_, _||_}
+use mathlib.Core.Path.{_≡_}
+use mathlib.Core.Bool.{Bool, false, cond, not, _&&_, _||_}
 use mathlib.Core.List.{List}
 use lib.Dec.{eqb, leb, ltb}
-use lib.ListN.{getD}
+use lib.ListN.{length, getD}
 use Rattle.counting.specs.Count.{any}
 use Rattle.counting.specs.Sets.{member}
 
@@ -38,3 +39,11 @@ tableRows n = n * n + 2 * (n * n * n)
 -- what the tables by n give: the formula for n from 1 to 13, and 0 outside
 unfoldable pub byN : (ℕ → ℕ) → ℕ → ℕ
 byN formula n = cond (outside n) 0 (formula n)
+
+-- what a start takes: it passes refusals 4, 5, 6, 11 and 9
+pub record Startable (n t faulty : ℕ) (rows : List ℕ) : Type 0 where
+  pub pass4 : outside n ≡ false
+  pub pass5 : tooMany n t ≡ false
+  pub pass6 : stray n faulty ≡ false
+  pub pass11 : length rows ≡ n
+  pub pass9 : soundZero n faulty rows ≡ false

@@ -4,11 +4,12 @@ use mathlib.Core.Path.{_≡_, ap, _∙_}
 use Prim.Native.Nat.{ℕ, _*_, _+_, _-_, _≤_, _<_}
 use native.Mathlib.Omega.{arith}
 use lib.ListN.{getD, replicate}
+use Rattle.sizes.proofs.Laws.{square-le, table-le}
 use Rattle.counting.specs.Count.{front}
 use Rattle.counting.proofs.Build.{front-none, front-turn, front-whole}
 use Rattle.gradecast.specs.Steps.{hears, sends}
 use Rattle.gradecast.specs.Cast.{heardFrom}
-use Rattle.gradecast.proofs.Places.{square-le, two-digits, table-le}
+use Rattle.gradecast.proofs.Places.{two-digits}
 use borrow.Author.Needs.{needs}
 use Rattle.gradecast.proofs.column.Statement.{statement}
 use Rattle.gradecast.proofs.column.Tie as tie

@@ -3,12 +3,13 @@
 use mathlib.Core.Path.{_≡_, sym, ap, _∙_}
 use native.Mathlib.Omega.{arith}
 use lib.ListN.{take}
+use Rattle.sizes.proofs.Laws.{square-le, cube-le}
 use Rattle.tally.specs.Tally.{confidenceOf, gradedRow}
 use Rattle.tally.specs.declared.Graded.{Graded}
 use Rattle.tally.proofs.Taken.{grade-row, grade-confidence}
 use Rattle.gradecast.specs.Steps.{gradeRow, confidence}
 use Rattle.gradecast.proofs.Columns.{column-3, column-length, column-part, column-sized}
-use Rattle.gradecast.proofs.Places.{square-le, cube-le, third-fits}
+use Rattle.gradecast.proofs.Places.{third-fits}
 use Rattle.gradecast.proofs.Sound.{of-faulty, of-sound}
 use borrow.Author.Needs.{needs}
 use Rattle.gradecast.proofs.grade_cell.Statement.{statement}

@@ -5,12 +5,12 @@ use mathlib.Core.List.{List}
 use Prim.Native.Nat.{ℕ, _*_, _/_, _%_, _-_, _≤_}
 use native.Mathlib.Omega.{arith}
 use lib.ListN.{replicate}
+use Rattle.sizes.proofs.Laws.{square-le}
 use Rattle.counting.proofs.Build.{front-none, front-turn, front-whole}
 use Rattle.counting.specs.Count.{front}
 use Rattle.gradecast.specs.Steps.{voted, gradeRow, confidence}
 use Rattle.gradecast.specs.Cast.{ofSound, cells}
 use Rattle.gradecast.proofs.Cells.{place-among}
-use Rattle.gradecast.proofs.Places.{square-le}
 use borrow.Author.Needs.{needs}
 use Rattle.gradecast.proofs.grade_cells.Statement.{statement}
 use Rattle.gradecast.proofs.grade_cells.Tie as tie

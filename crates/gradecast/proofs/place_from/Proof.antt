@@ -1,8 +1,9 @@
 -- `gradecast::place_from` meets its contract: sender, receiver and leader are three digits in base n, and n is at most 13. Assumes nothing.
 use mathlib.Core.Path.{refl}
 use native.Mathlib.Omega.{arith}
+use Rattle.sizes.proofs.Laws.{square-le, cube-le}
 use Rattle.gradecast.specs.Steps.{placeFrom}
-use Rattle.gradecast.proofs.Places.{square-le, cube-le, two-digits, three-digits}
+use Rattle.gradecast.proofs.Places.{two-digits, three-digits}
 use Rattle.gradecast.proofs.place_from.Statement.{statement}
 use Rattle.gradecast.proofs.place_from.Tie as tie
 

@@ -1,8 +1,9 @@
 -- `gradecast::place_of_first` meets its contract: sender and receiver are two digits in base n, and n is at most 13. Assumes nothing.
 use mathlib.Core.Path.{refl}
 use native.Mathlib.Omega.{arith}
+use Rattle.sizes.proofs.Laws.{square-le}
 use Rattle.gradecast.specs.Steps.{place1}
-use Rattle.gradecast.proofs.Places.{square-le, two-digits}
+use Rattle.gradecast.proofs.Places.{two-digits}
 use Rattle.gradecast.proofs.place_of_first.Statement.{statement}
 use Rattle.gradecast.proofs.place_of_first.Tie as tie
 

@@ -4,12 +4,12 @@ use mathlib.Core.Path.{_≡_, refl, ap, _∙_}
 use Prim.Native.Nat.{ℕ, _*_, _/_, _%_, _-_, _≤_}
 use native.Mathlib.Omega.{arith}
 use lib.ListN.{replicate}
+use Rattle.sizes.proofs.Laws.{square-le}
 use Rattle.counting.specs.Count.{front}
 use Rattle.counting.proofs.Build.{front-none, front-turn}
 use Rattle.gradecast.specs.Steps.{heard1}
 use Rattle.gradecast.specs.Cast.{ofSound, cells}
 use Rattle.gradecast.proofs.Cells.{place-among}
-use Rattle.gradecast.proofs.Places.{square-le}
 use borrow.Author.Needs.{needs}
 use Rattle.gradecast.proofs.second_cells.Statement.{statement}
 use Rattle.gradecast.proofs.second_cells.Tie as tie

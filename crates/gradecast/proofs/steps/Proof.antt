@@ -3,8 +3,8 @@
 use mathlib.Core.Path.{sym, ap, ap₂, _∙_}
 use Prim.Native.Nat.{ℕ, _+_, _*_}
 use native.Mathlib.Omega.{arith}
+use Rattle.sizes.proofs.Laws.{square-le, table-le}
 use Rattle.gradecast.proofs.Messages.{messages-bound}
-use Rattle.gradecast.proofs.Places.{square-le, table-le}
 use Rattle.gradecast.proofs.Sent.{length-front, front-within, messages-counted, cast-is}
 use borrow.Author.Needs.{needs}
 use Rattle.gradecast.proofs.steps.Statement.{statement}

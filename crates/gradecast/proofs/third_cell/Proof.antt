@@ -3,12 +3,13 @@
 use mathlib.Core.Path.{sym, ap, _∙_}
 use native.Mathlib.Omega.{arith}
 use lib.ListN.{take}
+use Rattle.sizes.proofs.Laws.{square-le}
 use Rattle.tally.specs.Tally.{voteOf}
 use Rattle.tally.specs.declared.Voted.{Voted}
 use Rattle.tally.proofs.Taken.{vote-row}
 use Rattle.gradecast.specs.Steps.{voted}
 use Rattle.gradecast.proofs.Columns.{column-2, column-length, column-part, column-sized}
-use Rattle.gradecast.proofs.Places.{square-le, second-fits}
+use Rattle.gradecast.proofs.Places.{second-fits}
 use Rattle.gradecast.proofs.Sound.{of-faulty, of-sound}
 use borrow.Author.Needs.{needs}
 use Rattle.gradecast.proofs.third_cell.Statement.{statement}

@@ -5,8 +5,7 @@ use native.Mathlib.Nat.{mul-le-mul}
 use native.Mathlib.Omega.{arith}
 use lib.Dec.{ltb}
 use Rattle.sizes.specs.Sizes.{tableRows}
-use Rattle.sizes.proofs.Laws.{inside, by-n-inside}
-use Rattle.gradecast.proofs.Places.{table-le}
+use Rattle.sizes.proofs.Laws.{inside, by-n-inside, table-le}
 use Rattle.run.specs.State.{tooManySent}
 use borrow.Author.Needs.{needs}
 use Rattle.run.proofs.has_too_many_sent.Statement.{statement}

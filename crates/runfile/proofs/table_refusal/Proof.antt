@@ -11,9 +11,8 @@ use Rattle.counting.specs.Refuse.{firstOf}
 use Rattle.counting.proofs.Bools.{not-of-true, not-of-false}
 use Rattle.counting.proofs.Refuse.{refused, passed}
 use Rattle.sizes.specs.Sizes.{outside, tableRows}
-use Rattle.sizes.proofs.Laws.{by-n-inside}
 use Rattle.runfile.specs.Reply.{tableTests, tableRefusal}
-use Rattle.runfile.proofs.Laws.{table-rows-most}
+use Rattle.sizes.proofs.Laws.{by-n-inside, inside-high, table-le}
 use borrow.Author.Needs.{needs}
 use Rattle.runfile.proofs.table_refusal.Statement.{statement}
 use Rattle.runfile.proofs.table_refusal.Tie as tie
@@ -51,7 +50,7 @@ table-rows-requires : tie.Need-table-rows-requires
 table-rows-requires c κs = search needs
 
 mul-if2 : tie.Need-mul-if2
-mul-if2 c = omega (arith, rows-of c, table-rows-most _ (inside-of (c .before)))
+mul-if2 c = omega (arith, rows-of c, table-le (inside-high _ (inside-of (c .before))))
 
 returns-2 : tie.Need-returns-2
 unfolding tableRefusal tableTests
