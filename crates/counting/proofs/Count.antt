@@ -11,7 +11,7 @@ use native.Mathlib.Numerals.{add-one}
 use native.Mathlib.Omega.{arith}
 use lib.Arith.{digits-div, digits-mod}
 use Rattle.counting.specs.Count.{sum, count, any, find}
-use Rattle.counting.proofs.Bools.{never, either, both, not-of-false, or-cases, or-false-left, or-false-right, or-none, and-left, and-right}
+use Rattle.counting.proofs.Bools.{never, either, both, not-of-false, or-cases, or-false-left, or-false-right, or-none}
 
 -- what holds of every k below suc n holds below n, and at n
 module _ {P : ℕ → Type 0} where

@@ -2,7 +2,7 @@
 -- where every element is 0. No second number has these properties.
 -- Assumes nothing.
 use mathlib.Core.Path.{_≡_, refl, sym, ap, _∙_, subst}
-use mathlib.Core.Bool.{Bool, true, false, cond, _&&_, _||_}
+use mathlib.Core.Bool.{Bool, true, false, cond, _&&_}
 use mathlib.Core.List.{List}
 use mathlib.Core.Logic.{_⊎_, ⊎-elim}
 use mathlib.Core.Logic._⊎_.{inl, inr}
@@ -13,11 +13,10 @@ use native.Mathlib.Numerals.{add-one}
 use native.Mathlib.Omega.{arith}
 use lib.Dec.{eqb, ltb}
 use lib.ListN.{length, getD}
-use borrow.Author.Tests.{ltb-true, ltb-false, eqb-true, eqb-false, eq-eqb, ne-eqb, lt-ltb, le-ltb}
-use Rattle.counting.specs.Count.{count}
+use borrow.Author.Tests.{ltb-true, ltb-false, eqb-true, eq-eqb, ne-eqb, lt-ltb, le-ltb}
 use Rattle.counting.specs.Most.{places, support, before, best, most}
-use Rattle.counting.proofs.Bools.{either, never, or-cases, or-false-left, or-false-right, and-left, and-right, and-false-right, both, not-both, or-none, or-true-left, cond-true, cond-false}
-use Rattle.counting.proofs.Count.{Some, count-some, some-count, at-or-below, count-le, count-none}
+use Rattle.counting.proofs.Bools.{either, never, or-cases, or-false-left, or-false-right, and-left, and-right, and-false-right, both, not-both, or-none, or-true-left, cond-false}
+use Rattle.counting.proofs.Count.{Some, count-some, some-count, at-or-below, count-le}
 
 -- 0 has no support, and any other number its places
 pub support-zero : (xs : List ℕ) → support xs 0 ≡ 0

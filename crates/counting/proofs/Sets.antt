@@ -1,19 +1,17 @@
 -- Sets of boxes in one number: the members of a set that was built from a test, and of a set within a bound.
 -- Assumes nothing.
-use mathlib.Core.Path.{_≡_, refl, sym, ap, ap₂, _∙_, subst}
+use mathlib.Core.Path.{_≡_, refl, sym, ap, _∙_, subst}
 use mathlib.Core.Bool.{Bool, true, false, cond}
 use mathlib.Core.Logic.{⊎-elim}
 use Prim.Native.Nat.{ℕ, zero, suc, _+_, _-_, _*_, _/_, _%_, _^_, _≤_, _<_}
-use native.Mathlib.Nat.{le-refl, not-suc-le-zero, div-eq-of-lt, lt-of-lt-of-le, add-comm, mul-comm, mul-assoc, add-zero, zero-mul, one-mul, add-mul-div-right, add-mul-mod-self-right}
+use native.Mathlib.Nat.{not-suc-le-zero, div-eq-of-lt, lt-of-lt-of-le, add-comm, mul-assoc, zero-mul, one-mul, add-mul-div-right, add-mul-mod-self-right}
 use native.Mathlib.Numerals.{add-one}
 use native.Mathlib.Omega.{arith}
 use lib.Dec.{eqb}
 use lib.Pow.{pow-pos, pow-mono, pow-add, high}
-use borrow.Author.Tests.{ne-eqb, eq-eqb}
 use Rattle.counting.specs.Count.{sum}
 use Rattle.counting.specs.Sets.{member, setOf}
-use Rattle.counting.proofs.Bools.{never}
-use Rattle.counting.proofs.Count.{lower, at-or-below, sum-ext, sum-turn}
+use Rattle.counting.proofs.Count.{at-or-below, sum-ext, sum-turn}
 
 double : (n : ℕ) → 2 ^ suc n ≡ 2 ^ n + 2 ^ n
 double n = ap (λ (m : ℕ). 2 ^ m) (sym (add-one n)) ∙ pow-add 2 n 1 ∙ omega arith

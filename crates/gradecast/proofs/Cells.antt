@@ -1,12 +1,9 @@
 -- n rows of n numbers in 169 places: the number at place i * n + k is f i k. Assumes nothing.
-use mathlib.Core.Path.{_≡_, refl, sym, ap, ap₂, _∙_}
-use mathlib.Core.Bool.{cond}
-use mathlib.Core.List.{List}
+use mathlib.Core.Path.{_≡_, ap₂, _∙_}
 use Prim.Native.Nat.{ℕ, _+_, _*_, _/_, _%_, _≤_, _<_}
 use lib.Arith.{digits-div, digits-mod}
-use lib.ListN.{length, getD, replicate, length-replicate}
+use lib.ListN.{length, getD, replicate}
 use Rattle.sizes.proofs.Laws.{square-le}
-use Rattle.counting.specs.Count.{front}
 use Rattle.counting.proofs.Build.{front-length, front-at}
 use native.Mathlib.Nat.{div-lt-iff-lt-mul, mod-lt}
 use Rattle.gradecast.specs.Cast.{Among, cells}

@@ -1,7 +1,7 @@
 -- A column that is read from 169 cells is the column of the document: the cell at j * n + k is what box j sends about leader k
 -- where j is sound, and a faulty box's cell is never heard.
 -- Assumes nothing.
-use mathlib.Core.Path.{_≡_, refl, sym, ap, _∙_}
+use mathlib.Core.Path.{_≡_, ap, _∙_}
 use mathlib.Core.List.{List}
 use Prim.Native.Nat.{ℕ, _+_, _*_, _≤_, _<_}
 use native.Mathlib.Omega.{arith}

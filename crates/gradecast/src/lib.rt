@@ -5,7 +5,6 @@ ghost use Prim.Native.Nat.{_+_, _*_, _<_, _≤_};
 ghost use lib.Dec.{eqb};
 ghost use lib.ListN.{length, getD, replicate};
 ghost use Rattle.counting.specs.Count.{count, front};
-ghost use Rattle.counting.specs.Sets.{member};
 ghost use Rattle.sizes.specs.Sizes.{sound, tableRows};
 ghost use Rattle.gradecast.specs.Steps.{place1, placeFrom, sends, hears, heard1};
 ghost use Rattle.gradecast.specs.Cast.{

@@ -1,19 +1,19 @@
 -- Step 5 reads box i's part of the 169 places, from i * n to i * n + n: it is the list of the leaders' rows, or confidences, that
 -- the document gives box i.
 -- Assumes nothing.
-use mathlib.Core.Path.{_≡_, refl, sym, ap, ap₂, _∙_, subst}
-use mathlib.Core.Bool.{Bool, false, cond, _||_}
+use mathlib.Core.Path.{_≡_, sym, ap, ap₂, _∙_, subst}
+use mathlib.Core.Bool.{false, _||_}
 use mathlib.Core.List.{List}
 use Prim.Native.Nat.{ℕ, _+_, _-_, _*_, _≤_, _<_}
 use native.Mathlib.Nat.{suc-mul, mul-le-mul-right}
 use native.Mathlib.Omega.{arith}
-use lib.Dec.{eqb, ltb}
+use lib.Dec.{ltb}
 use lib.ListN.{length, getD, take, drop, length-drop}
 use lib.Seq.{getD-take, getD-drop, length-take-le}
 use borrow.Author.Tests.{eq-eqb, ne-eqb}
 use Rattle.sizes.proofs.Laws.{square-le}
 use Rattle.counting.specs.Count.{build}
-use Rattle.counting.specs.Sets.{member, setOf}
+use Rattle.counting.specs.Sets.{member}
 use Rattle.counting.proofs.Bools.{cond-true, cond-false}
 use Rattle.counting.proofs.Build.{built, getD-build, length-build}
 use Rattle.counting.proofs.Sets.{setOf-ext}
@@ -24,7 +24,6 @@ use Rattle.tally.proofs.Taken.{choice-row}
 use Rattle.gradecast.specs.Steps.{gradeRow, confidence}
 use Rattle.gradecast.specs.Cast.{ofSound, cells}
 use Rattle.gradecast.proofs.Cells.{cells-at}
-use Rattle.gradecast.proofs.Places.{two-digits}
 use Rattle.gradecast.proofs.Sound.{of-sound}
 use Rattle.run.specs.declared.Run.{Run}
 use Rattle.run.specs.Grades.{GradesOf, Working, listFrom}

@@ -1,23 +1,22 @@
 -- The refusals of a start and of an iteration begin with 4, 5 and 6; where those pass, the rest of the list decides.
 -- Assumes nothing.
-use mathlib.Core.Path.{_≡_, refl, sym, _∙_}
-use mathlib.Core.Bool.{Bool, false, not, _||_}
+use mathlib.Core.Path.{_≡_, refl, sym}
+use mathlib.Core.Bool.{false, not, _||_}
 use mathlib.Core.List.{List, [], _∷_}
 use Prim.Native.Nat.{ℕ, _*_, _≤_, _<_}
 use lib.Dec.{eqb, ltb}
 use lib.ListN.{length}
-use borrow.Author.Tests.{eq-eqb, ne-eqb}
+use borrow.Author.Tests.{ne-eqb}
 use Rattle.counting.specs.Count.{any}
 use Rattle.counting.specs.Refuse.{Refusal, firstOf}
 use Rattle.counting.specs.Refuse.Refusal.{refuse}
-use Rattle.counting.proofs.Bools.{cond-true, cond-false}
 use Rattle.counting.proofs.Refuse.{accepted, refused-first}
 use Rattle.sizes.specs.Sizes.{outside, tooMany, stray, soundZero, tableRows}
 use Rattle.sizes.proofs.Laws.{inside-low, inside-high, tolerated-lt}
 use Rattle.run.specs.declared.Run.{Run}
 use Rattle.run.specs.declared.Next.{Next}
 use Rattle.run.specs.Iteration.{nextRun}
-use Rattle.run.specs.State.{settingRefusal, startRefusal, startRun, startReply, zeros, badPlace, tooManySent, lateRefusal, iterateRefusal, iterateReply}
+use Rattle.run.specs.State.{settingRefusal, startRefusal, startRun, startReply, zeros, badPlace, tooManySent, iterateRefusal, iterateReply}
 
 -- what passes 4, 5 and 6
 pub record Passed (n t faulty : ℕ) : Type 0 where

@@ -1,12 +1,11 @@
 -- The start, the iteration with its refusals, and a run of several tables.
-use Prim.Native.Nat.{ℕ, zero, suc, _+_, _*_}
+use Prim.Native.Nat.{ℕ, zero, suc, _*_}
 use mathlib.Core.Bool.{Bool, cond, not, _&&_, _||_}
 use mathlib.Core.List.{List, [], _∷_}
-use lib.Dec.{eqb, leb, ltb}
+use lib.Dec.{eqb, ltb}
 use lib.ListN.{length, getD, replicate}
 use Rattle.counting.specs.Count.{any, build}
-use Rattle.counting.specs.Sets.{member}
-use Rattle.counting.specs.Refuse.{Refusal, firstOf}
+use Rattle.counting.specs.Refuse.{firstOf}
 use Rattle.counting.specs.Refuse.Refusal.{refuse}
 use Rattle.sizes.specs.Sizes.{outside, tooMany, stray, tableRows}
 pub use Rattle.sizes.specs.Sizes.{soundZero}

@@ -3,11 +3,11 @@ ghost use mathlib.Core.Path.{_≡_};
 ghost use mathlib.Core.Bool.{cond, _||_, _&&_};
 ghost use mathlib.Core.List.{List};
 ghost use Prim.Native.Nat.{ℕ, _+_, _≤_, _<_};
-ghost use lib.Dec.{eqb, ltb};
-ghost use lib.ListN.{length, getD};
+ghost use lib.Dec.{ltb};
+ghost use lib.ListN.{length};
 ghost use Rattle.counting.specs.Count.{any, build};
 ghost use Rattle.counting.specs.Sets.{member};
-ghost use Rattle.sizes.specs.Sizes.{stray, sound, soundZero};
+ghost use Rattle.sizes.specs.Sizes.{sound, soundZero};
 ghost use Rattle.run.specs.Iteration.{newRow, entry};
 ghost use Rattle.run.specs.Grades.{GradesOf, Sized, Working, listFrom};
 ghost use Rattle.run.specs.State.{

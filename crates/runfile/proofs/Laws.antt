@@ -6,18 +6,16 @@ use mathlib.Core.Bool.{Bool, true, false, not, cond, _&&_}
 use mathlib.Core.List.{List}
 use Prim.Native.Nat.{ℕ, _*_, _≤_, _<_}
 use native.Mathlib.Decide.{ℕ-discrete}
-use native.Mathlib.Omega.{arith}
-use lib.Dec.{eqb, leb}
+use lib.Dec.{eqb}
 use lib.ListN.{length, take, drop}
 use lib.Seq.{take-at}
-use borrow.Author.Tests.{leb-true, ltb-false, eqb-true, eq-eqb, ne-eqb}
-use Rattle.counting.specs.Count.{any, build}
+use borrow.Author.Tests.{ltb-false, eqb-true, eq-eqb, ne-eqb}
+use Rattle.counting.specs.Count.{build}
 use Rattle.counting.proofs.Bools.{not-false, cond-true, cond-false}
 use Rattle.counting.proofs.Build.{length-build}
-use Rattle.counting.proofs.Count.{any-none}
 use Rattle.counting.proofs.Refuse.{accepted}
 use Rattle.sizes.specs.Sizes.{Startable, outside, tooMany, stray, soundZero, tableRows, largestT}
-use Rattle.sizes.proofs.Laws.{inside-low, inside-high, tolerated, tolerated-lt, largest-tolerated}
+use Rattle.sizes.proofs.Laws.{inside-low, tolerated, tolerated-lt, largest-tolerated}
 use Rattle.runfile.specs.declared.Heading.{Heading}
 use Rattle.runfile.specs.File.{marked, versionOf, nOf, tByte, tOf, faultyOf, headingBytes, headingRow, tableRow}
 use Rattle.counting.specs.Count.{front}

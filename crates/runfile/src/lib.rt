@@ -5,7 +5,7 @@ ghost use Prim.Native.Nat.{_+_, _*_, _≤_, _<_};
 ghost use lib.Dec.{eqb};
 ghost use lib.ListN.{length};
 ghost use Rattle.counting.specs.Count.{build, front};
-ghost use Rattle.sizes.specs.Sizes.{outside, tooMany, stray, sound, soundZero};
+ghost use Rattle.sizes.specs.Sizes.{outside, tooMany, soundZero};
 ghost use Rattle.runfile.specs.File.{number, marked, nOf, tOf, headingBytes, rowFrom, headingRow};
 ghost use Rattle.runfile.specs.Reply.{headingRefusal, headingOf, headingReply, headingWrites, tableRefusal, tableWrites};
 

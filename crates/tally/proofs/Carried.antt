@@ -4,15 +4,14 @@
 use mathlib.Core.Path.{_≡_, refl, sym, ap, _∙_}
 use mathlib.Core.Bool.{Bool, true, false, cond, not, _&&_}
 use mathlib.Core.List.{List}
-use mathlib.Core.Logic.{_⊎_, ⊎-elim}
-use mathlib.Core.Logic._⊎_.{inl, inr}
+use mathlib.Core.Logic.{⊎-elim}
 use Prim.Native.Nat.{ℕ, _-_, _≤_, _<_}
-use lib.Dec.{eqb, leb}
+use lib.Dec.{eqb}
 use lib.ListN.{length, getD}
 use borrow.Author.Tests.{eq-eqb, ne-eqb, le-leb, lt-leb, eqb-true, eqb-false}
-use Rattle.counting.specs.Count.{any, find}
+use Rattle.counting.specs.Count.{any}
 use Rattle.counting.specs.Most.{places}
-use Rattle.counting.proofs.Bools.{either, never, both, not-both, and-left, and-right, and-false-right, not-of-false, not-true, same, cond-true, cond-false}
+use Rattle.counting.proofs.Bools.{either, never, both, not-both, and-left, and-right, and-false-right, not-of-false, not-true, same}
 use Rattle.counting.proofs.Count.{Some, any-some, some-any, none-any, find-cases}
 use Rattle.tally.specs.Tally.{carried, voteOf, twoRows, rival}
 

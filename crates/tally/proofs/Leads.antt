@@ -1,12 +1,12 @@
 -- The lead so far and a row v: v takes the lead exactly where it stands before the leading row, and the lead carries its own
 -- support. Assumes nothing.
 use mathlib.Core.Path.{_≡_, refl, sym, ap, _∙_}
-use mathlib.Core.Bool.{Bool, true, false, cond}
+use mathlib.Core.Bool.{true, false, cond}
 use mathlib.Core.List.{List}
 use Prim.Native.Nat.{ℕ, _+_}
 use lib.ListN.{getD}
 use Rattle.counting.specs.Most.{support, before, best}
-use Rattle.counting.proofs.Bools.{cond-true, cond-false}
+use Rattle.counting.proofs.Bools.{cond-false}
 use Rattle.counting.proofs.Most.{best-turn}
 use Rattle.tally.specs.declared.Lead.{Lead}
 use Rattle.tally.specs.Reply.{leadOf}

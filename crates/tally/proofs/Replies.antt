@@ -2,7 +2,7 @@
 use mathlib.Core.Path.{_≡_, refl, sym, ap, _∙_}
 use mathlib.Core.Bool.{Bool, true, false, cond, not}
 use mathlib.Core.List.{List, [], _∷_}
-use Prim.Native.Nat.{ℕ, zero, suc, _*_, _≤_, _<_}
+use Prim.Native.Nat.{ℕ, _*_, _≤_, _<_}
 use lib.Dec.{eqb}
 use lib.ListN.{length}
 use borrow.Author.Tests.{ne-eqb, eq-eqb, eqb-true}
@@ -10,14 +10,14 @@ use Rattle.counting.specs.Refuse.{firstOf}
 use Rattle.counting.specs.Refuse.Refusal.{refuse}
 use Rattle.counting.specs.Most.{most}
 use Rattle.counting.proofs.Bools.{not-false, cond-true, cond-false}
-use Rattle.counting.proofs.Refuse.{accepted, passed}
+use Rattle.counting.proofs.Refuse.{accepted}
 use Rattle.sizes.specs.Sizes.{outside, tooMany}
 use Rattle.sizes.proofs.Laws.{inside-low, inside-high, tolerated-lt}
 use Rattle.tally.specs.declared.Voted.{Voted}
 use Rattle.tally.specs.declared.Graded.{Graded}
 use Rattle.tally.specs.declared.Chosen.{Chosen}
 use Rattle.tally.specs.declared.Lead.{Lead}
-use Rattle.tally.specs.Tally.{confidenceAt, supportOf, counted, firmFor, twoRows, voteOf, gradedRow, confidenceOf, chosenRow, firmLeaders, above2}
+use Rattle.tally.specs.Tally.{confidenceAt, supportOf, counted, firmFor, twoRows, voteOf, gradedRow, confidenceOf, chosenRow, firmLeaders}
 use Rattle.tally.specs.Reply.{leadOf, gradeRefusal, voteRefusal, choiceRefusal, unless, voteReply, gradeReply, choiceReply}
 
 -- what passes refusals 4 and 5

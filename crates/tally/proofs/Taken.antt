@@ -2,8 +2,8 @@
 -- since two rows that stand n − t times each are one row where 3t < n.
 -- Assumes nothing.
 use mathlib.Core.Path.{_≡_, refl, sym, ap, _∙_}
-use mathlib.Core.Bool.{Bool, true, false, not, _&&_}
-use mathlib.Core.List.{List, [], _∷_}
+use mathlib.Core.Bool.{Bool, false, not, _&&_}
+use mathlib.Core.List.{List}
 use mathlib.Core.Logic.{⊎-elim}
 use Prim.Native.Nat.{ℕ, _*_, _≤_, _<_}
 use lib.Dec.{eqb, ltb}
@@ -13,7 +13,6 @@ use Rattle.counting.specs.Count.{any}
 use Rattle.counting.specs.Refuse.{firstOf}
 use Rattle.counting.proofs.Bools.{either, and-left, and-right, not-of-true, never, cond-false}
 use Rattle.counting.proofs.Count.{Some, any-some, none-any}
-use Rattle.sizes.specs.Sizes.{outside, tooMany}
 use Rattle.sizes.proofs.Laws.{inside, tolerated}
 use Rattle.tally.specs.declared.Voted.{Voted}
 use Rattle.tally.specs.declared.Graded.{Graded}

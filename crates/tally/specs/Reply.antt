@@ -1,12 +1,12 @@
 -- The whole replies of vote, grade and choice: first the refusals in document 01's order, then the answer. A refused call
 -- gives 0 for everything but the refusal's number.
 use Prim.Native.Nat.{ℕ}
-use mathlib.Core.Bool.{Bool, cond, not}
+use mathlib.Core.Bool.{cond, not}
 use mathlib.Core.List.{List, [], _∷_}
 use lib.Dec.{eqb}
 use lib.ListN.{length}
 use Rattle.counting.specs.Most.{support}
-use Rattle.counting.specs.Refuse.{Refusal, firstOf}
+use Rattle.counting.specs.Refuse.{firstOf}
 use Rattle.counting.specs.Refuse.Refusal.{refuse}
 use Rattle.sizes.specs.Sizes.{outside, tooMany}
 use Rattle.tally.specs.declared.Voted.{Voted}

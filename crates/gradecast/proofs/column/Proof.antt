@@ -1,7 +1,7 @@
 -- `gradecast::column` meets its contract: after j turns the first j places hold what is heard from the boxes below j. What is left of n
 -- falls. Assumes nothing.
 use mathlib.Core.Path.{_≡_, ap, _∙_}
-use Prim.Native.Nat.{ℕ, _*_, _+_, _-_, _≤_, _<_}
+use Prim.Native.Nat.{ℕ, _*_, _+_, _-_, _≤_}
 use native.Mathlib.Omega.{arith}
 use lib.ListN.{getD, replicate}
 use Rattle.sizes.proofs.Laws.{square-le, table-le}

@@ -1,6 +1,6 @@
 -- `gradecast::grade_cell` meets its contract: a faulty box's cell is 0; a sound one's column is that of step 3 in the document, and the grade
 -- over it is that of step 4. Assumes nothing.
-use mathlib.Core.Path.{_≡_, sym, ap, _∙_}
+use mathlib.Core.Path.{sym, ap, _∙_}
 use native.Mathlib.Omega.{arith}
 use lib.ListN.{take}
 use Rattle.sizes.proofs.Laws.{square-le, cube-le}

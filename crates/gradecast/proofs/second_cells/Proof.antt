@@ -1,7 +1,7 @@
 -- `gradecast::second_cells` meets its contract: after p turns the first p cells are filled, cell p for box p / n and leader p % n. What is left
 -- of n² falls. Assumes nothing.
-use mathlib.Core.Path.{_≡_, refl, ap, _∙_}
-use Prim.Native.Nat.{ℕ, _*_, _/_, _%_, _-_, _≤_}
+use mathlib.Core.Path.{_≡_, refl}
+use Prim.Native.Nat.{_*_, _/_, _%_, _-_, _≤_}
 use native.Mathlib.Omega.{arith}
 use lib.ListN.{replicate}
 use Rattle.sizes.proofs.Laws.{square-le}

@@ -1,5 +1,5 @@
 -- `run::has_too_many_sent` meets its contract: the table by n gives the rows of a table, at most 4,563. Assumes nothing.
-use mathlib.Core.Path.{_≡_, ap, _∙_}
+use mathlib.Core.Path.{ap, _∙_}
 use Prim.Native.Nat.{ℕ, _*_, _≤_}
 use native.Mathlib.Nat.{mul-le-mul}
 use native.Mathlib.Omega.{arith}

@@ -1,6 +1,6 @@
 -- `run::new_row` meets its contract: box i's parts of the 169 places are the leaders' rows and confidences, and the choice over them is the
 -- document's. Assumes nothing.
-use mathlib.Core.Path.{_≡_, sym, ap, _∙_}
+use mathlib.Core.Path.{sym, ap, _∙_}
 use native.Mathlib.Omega.{arith}
 use Rattle.tally.specs.declared.Chosen.{Chosen}
 use Rattle.run.proofs.Parts.{part-fits, choice-of, new-row-old, new-row-chosen}

@@ -1,9 +1,6 @@
 -- `run::start` meets its contract: it refuses with a state of zeros, and otherwise builds the state from the rows. Assumes nothing.
-use mathlib.Core.Path.{_≡_, refl, sym, ap, _∙_}
-use mathlib.Core.List.{List}
-use Prim.Native.Nat.{ℕ}
+use mathlib.Core.Path.{sym, _∙_}
 use lib.ListN.{replicate}
-use Rattle.run.specs.declared.Run.{Run}
 use Rattle.run.specs.State.{startRun, zeros}
 use Rattle.run.proofs.Accepted.{is-start-accepted}
 use Rattle.run.proofs.Refusals.{start-refused, start-taken}

@@ -1,5 +1,5 @@
 -- `run::start_refusal` meets its contract: it makes the tests of refusals 4, 5, 6, 11 and 9 in their order. Assumes nothing.
-use mathlib.Core.Path.{refl, sym, ap, _∙_}
+use mathlib.Core.Path.{sym, _∙_}
 use mathlib.Core.List.{[]}
 use native.Mathlib.Omega.{arith}
 use borrow.Author.Tests.{eq-eqb, ne-eqb}

@@ -1,7 +1,6 @@
 -- `tally::ahead` meets its contract: nothing stands before itself; otherwise the two supports decide, and on a tie the lower row.
 -- Assumes nothing.
-use mathlib.Core.Path.{_≡_, refl, sym, ap, _∙_}
-use Prim.Native.Nat.{ℕ}
+use mathlib.Core.Path.{ap, _∙_}
 use native.Mathlib.Omega.{arith}
 use borrow.Author.Tests.{lt-ltb, le-ltb}
 use Rattle.counting.specs.Most.{before}

@@ -1,7 +1,5 @@
 -- `tally::choice_refusal` meets its contract: it makes the tests of refusals 4, 11 and 13 in their order. Assumes nothing.
-use mathlib.Core.Path.{refl, sym, ap, _∙_}
-use mathlib.Core.Bool.{not}
-use lib.Dec.{eqb}
+use mathlib.Core.Path.{sym, _∙_}
 use lib.ListN.{length}
 use borrow.Author.Tests.{eq-eqb, ne-eqb}
 use Rattle.counting.specs.Refuse.{firstOf}

@@ -1,10 +1,9 @@
 -- `tally::choose` meets its contract: it refuses by 4, 11 and 13, and otherwise the lead of the counted rows is the chosen row, whose firm
 -- leaders it counts. Assumes nothing.
-use mathlib.Core.Path.{_≡_, refl, sym, ap, _∙_, subst}
+use mathlib.Core.Path.{_≡_, sym, _∙_, subst}
 use mathlib.Core.List.{List}
 use Prim.Native.Nat.{ℕ}
 use native.Mathlib.Omega.{arith}
-use lib.ListN.{length}
 use lib.Seq.{length-take-le}
 use Rattle.counting.specs.Most.{most}
 use Rattle.tally.specs.Reply.{leadOf}

@@ -1,6 +1,6 @@
 -- `tally::grade` meets its contract: it refuses by 4 and 5, and otherwise the lead of the rows is the row found most often with its support,
 -- which gives the confidence. Assumes nothing.
-use mathlib.Core.Path.{refl, sym, _∙_}
+use mathlib.Core.Path.{sym, _∙_}
 use Rattle.tally.proofs.Replies.{grade-refused, grade-taken, lead-confidence, lead-row, no-row}
 use borrow.Author.Needs.{needs}
 use Rattle.tally.proofs.grade.Statement.{statement}

@@ -1,7 +1,7 @@
 -- `tally::lead_of` meets its contract: after i turns the lead is the best of the first i rows, with its support. What is left of the
 -- length falls. Assumes nothing.
 use mathlib.Core.Path.{_≡_, refl}
-use Prim.Native.Nat.{ℕ, _≤_, _-_}
+use Prim.Native.Nat.{_≤_, _-_}
 use native.Mathlib.Omega.{arith}
 use lib.ListN.{length}
 use Rattle.counting.specs.Most.{best, most, support}

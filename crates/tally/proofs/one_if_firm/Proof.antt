@@ -1,5 +1,5 @@
 -- `tally::one_if_firm` meets its contract: with confidence 2 the rows decide, and otherwise it is 0. Assumes nothing.
-use mathlib.Core.Path.{refl, _∙_}
+use mathlib.Core.Path.{refl}
 use borrow.Author.Tests.{eq-eqb, ne-eqb}
 use borrow.Author.Needs.{needs}
 use Rattle.tally.proofs.one_if_firm.Statement.{statement}

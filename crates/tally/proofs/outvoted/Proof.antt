@@ -1,6 +1,6 @@
 -- `tally::outvoted` meets its contract: 0 is never carried, the row so far is the answer either way, and otherwise the places of v are
 -- held against n − t. Assumes nothing.
-use mathlib.Core.Path.{_≡_, refl, sym, subst}
+use mathlib.Core.Path.{_≡_, refl, sym}
 use mathlib.Core.Bool.{Bool, true, false, cond}
 use Prim.Native.Nat.{ℕ}
 use native.Mathlib.Omega.{arith}

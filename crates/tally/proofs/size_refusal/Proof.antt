@@ -1,6 +1,5 @@
 -- `tally::size_refusal` meets its contract: it makes the tests of refusals 4 and 5 in their order. Assumes nothing.
 use mathlib.Core.Path.{sym, _∙_}
-use mathlib.Core.List.{[], _∷_}
 use borrow.Author.Needs.{needs}
 use Rattle.counting.specs.Refuse.{firstOf}
 use Rattle.counting.proofs.Refuse.{refused, passed}

@@ -1,8 +1,6 @@
 -- `tally::vote` meets its contract: it refuses by 4 and 5; where no row is found no two are; and otherwise the row found has a rival exactly
 -- where refusal 7 is due. Assumes nothing.
 use mathlib.Core.Path.{refl, sym, ap, _∙_}
-use mathlib.Core.Bool.{Bool, cond}
-use Prim.Native.Nat.{ℕ}
 use native.Mathlib.Omega.{arith}
 use lib.ListN.{length}
 use borrow.Author.Tests.{eqb-false}

@@ -1,7 +1,7 @@
 -- `tally::vote_of` meets its contract: after i turns the row is the last carried one of the first i. What is left of the length falls.
 -- Assumes nothing.
 use mathlib.Core.Path.{_≡_}
-use Prim.Native.Nat.{ℕ, _≤_, _-_}
+use Prim.Native.Nat.{_≤_, _-_}
 use native.Mathlib.Omega.{arith}
 use lib.ListN.{length, getD}
 use Rattle.counting.specs.Count.{find}
