@@ -8,7 +8,7 @@ use native.Mathlib.Nat.{le-refl, not-suc-le-zero}
 use native.Mathlib.Numerals.{add-one}
 use native.Mathlib.Omega.{arith}
 use lib.ListN.{length, getD, take, drop, set, length-append, length-drop, drop-of-length-le, List·getD-append}
-use lib.Seq.{take-suc-set, getD-at, take-all, ext-getD, getD-take, drop-cons, set-at, append-snoc, take-at}
+use lib.Seq.{take-suc-set, getD-at, take-all, ext-getD, drop-cons, set-at, append-snoc, take-at}
 use Rattle.counting.specs.Count.{build, front}
 use Rattle.counting.proofs.Count.{lower, at-or-below}
 
@@ -32,12 +32,6 @@ unfolding build
 build-ext zero f g h = refl
 build-ext (suc n) f g h = ap₂ (λ (xs : List ℕ) (x : ℕ). xs ++ (x ∷ [])) (build-ext n f g (lower n h)) (h n (le-refl _))
 
--- a list is built from its own elements
-pub build-getD : (xs : List ℕ) → build (length xs) (λ k. getD xs k 0) ≡ xs
-build-getD xs =
-    ext-getD 0 (build (length xs) (λ k. getD xs k 0)) xs (length-build (length xs) (λ k. getD xs k 0))
-    (λ k h. getD-build (length xs) (λ k. getD xs k 0) k 0 (omega (arith, length-build (length xs) (λ k. getD xs k 0))))
-
 -- a list that agrees with f at each of its n places
 pub built : (n : ℕ) (f : ℕ → ℕ) (xs : List ℕ) → length xs ≡ n → ((k : ℕ) → k < n → getD xs k 0 ≡ f k) → xs ≡ build n f
 built n f xs e h =
@@ -54,11 +48,6 @@ fill n f xs v l e h =
 -- a filled list, where every place is filled
 pub filled : (n : ℕ) (f : ℕ → ℕ) (xs : List ℕ) → length xs ≡ n → take n xs ≡ build n f → xs ≡ build n f
 filled n f xs e h = sym (take-all n xs (omega arith)) ∙ h
-
--- an element of the filled front
-pub filled-at : (n : ℕ) (f : ℕ → ℕ) (xs : List ℕ) → take n xs ≡ build n f → (k : ℕ) → k < n → getD xs k 0 ≡ f k
-filled-at n f xs h k l =
-    sym (getD-take n xs k 0 l) ∙ ap (λ (ys : List ℕ). getD ys k 0) h ∙ getD-build n f k 0 l
 
 -- a list that is written at its front, one place a turn: it keeps its length, its front holds f and its rest stays
 pub front-none : (f : ℕ → ℕ) (xs : List ℕ) → xs ≡ front 0 f xs
@@ -88,10 +77,6 @@ front-at n f xs k l =
 pub front-take : (n : ℕ) (f : ℕ → ℕ) (xs : List ℕ) → take n (front n f xs) ≡ build n f
 unfolding front
 front-take n f xs = take-at (build n f) (drop n xs) n (length-build n f)
-
-pub front-ext : (n : ℕ) (f g : ℕ → ℕ) (xs : List ℕ) → ((k : ℕ) → k < n → f k ≡ g k) → front n f xs ≡ front n g xs
-unfolding front
-front-ext n f g xs h = ap (λ (ys : List ℕ). ys ++ drop n xs) (build-ext n f g h)
 
 -- a loop that has come to its bound has filled the whole front
 pub front-whole : {m n : ℕ} (f : ℕ → ℕ) (xs : List ℕ) {ys : List ℕ} → m ≡ n → ys ≡ front m f xs → ys ≡ front n f xs

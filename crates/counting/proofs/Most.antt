@@ -16,7 +16,7 @@ use lib.ListN.{length, getD}
 use borrow.Author.Tests.{ltb-true, ltb-false, eqb-true, eq-eqb, ne-eqb, lt-ltb, le-ltb}
 use Rattle.counting.specs.Most.{places, support, before, best, most}
 use Rattle.counting.proofs.Bools.{either, never, or-cases, or-false-left, or-false-right, and-left, and-right, and-false-right, both, not-both, or-none, or-true-left, cond-false}
-use Rattle.counting.proofs.Count.{Some, count-some, some-count, at-or-below, count-le}
+use Rattle.counting.proofs.Count.{Some, count-some, some-count, at-or-below}
 
 -- 0 has no support, and any other number its places
 pub support-zero : (xs : List ℕ) → support xs 0 ≡ 0
@@ -26,10 +26,6 @@ support-zero xs = refl
 pub support-places : (xs : List ℕ) (v : ℕ) → (v ≡ 0 → ⊥) → support xs v ≡ places xs v
 unfolding support
 support-places xs v h = cond-false 0 (places xs v) (ne-eqb v 0 h)
-
-pub places-le : (xs : List ℕ) (v : ℕ) → places xs v ≤ length xs
-unfolding places
-places-le xs v = count-le (length xs) (λ k. eqb (getD xs k 0) v)
 
 -- a number with support is not 0 and stands somewhere
 pub record Stands (xs : List ℕ) (v : ℕ) : Type 0 where

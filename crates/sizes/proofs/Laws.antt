@@ -60,10 +60,6 @@ pub lt-within : (n set : ℕ) → set < 2 ^ n → stray n set ≡ false
 unfolding stray
 lt-within n set h = lt-leb (2 ^ n) set h
 
-pub not-within : (n set : ℕ) → 2 ^ n ≤ set → stray n set ≡ true
-unfolding stray
-not-within n set h = le-leb (2 ^ n) set h
-
 -- outside 1 to 13 the tables by n give 0
 pub by-n-outside : (formula : ℕ → ℕ) (n : ℕ) → outside n ≡ true → byN formula n ≡ 0
 unfolding byN
