@@ -14,11 +14,11 @@ use native.Mathlib.Omega.{arith}
 use lib.Dec.{eqb, leb, ltb}
 use lib.ListN.{length, getD}
 use borrow.Author.Tests.{eqb-true, eqb-false, eq-eqb, ne-eqb, leb-true, leb-false, ltb-true, ltb-false}
-use Rattle.counting.specs.Count.{find}
+use Rattle.counting.specs.Count.{any, find}
 use Rattle.counting.specs.Most.{places, support, most}
 use Rattle.counting.proofs.Bools.{never, and-left, and-right, not-true, cond-true, cond-false}
 use Rattle.counting.proofs.Build.{length-build, getD-build, built}
-use Rattle.counting.proofs.Count.{find-cases}
+use Rattle.counting.proofs.Count.{any-none, find-cases}
 use Rattle.counting.proofs.Most.{Stands, IsMost, support-places, supported, most-is, most-unique, most-stands, most-zero}
 use Rattle.counting.proofs.Places.{places-one, most-majority}
 use Rattle.tally.specs.Tally.{carried, voteOf, supportOf, confidenceAt, confidenceOf, gradedRow, counted, chosenRow}
@@ -62,6 +62,15 @@ module _ (t : ℕ) (xs : List ℕ) where
   -- where no row is carried the vote is 0
   pub vote-none : ((v : ℕ) → Carried t xs v → ⊥) → voteOf t xs ≡ 0
   vote-none h = ⊎-elim (λ c. absurd (h (voteOf t xs) c)) (λ n. n .0) vote-cases
+
+  -- where no row of the column is carried the vote is 0
+  pub vote-nowhere : any (length xs) (λ k. carried t xs (getD xs k 0)) ≡ false → voteOf t xs ≡ 0
+  unfolding voteOf
+  vote-nowhere h =
+      ⊎-elim
+      (λ f. never (ap (carried t xs) (f .here) ∙ f .passes) (any-none (length xs) (λ k. carried t xs (getD xs k 0)) h (f .at) (f .below)))
+      (λ n. n .0)
+      (find-cases (length xs) (carried t xs) (λ k. getD xs k 0))
 
   -- a carried row is the vote
   pub vote-is : 3 * t < length xs → (v : ℕ) → Carried t xs v → voteOf t xs ≡ v

@@ -3,11 +3,14 @@
 use mathlib.Core.Path.{_≡_, refl, sym, ap, _∙_}
 use mathlib.Core.Bool.{true, false, cond}
 use mathlib.Core.List.{List}
-use Prim.Native.Nat.{ℕ, _+_}
-use lib.ListN.{getD}
-use Rattle.counting.specs.Most.{support, before, best}
+use Prim.Native.Nat.{ℕ, _+_, _/_, _<_}
+use native.Mathlib.Decide.{ℕ-discrete}
+use native.Mathlib.Omega.{arith}
+use lib.ListN.{length, getD}
+use Rattle.counting.specs.Most.{support, before, best, most}
 use Rattle.counting.proofs.Bools.{cond-false}
-use Rattle.counting.proofs.Most.{best-turn}
+use Rattle.counting.proofs.Most.{best-turn, support-zero, support-places}
+use Rattle.counting.proofs.Places.{most-majority}
 use Rattle.tally.specs.declared.Lead.{Lead}
 use Rattle.tally.specs.Reply.{leadOf}
 
@@ -37,3 +40,18 @@ lead-turn xs k lead next e h = rw (best-turn, ← ap (λ (l : Lead). l .row) e) 
 pub own-lead : (xs : List ℕ) (w : ℕ) (lead : Lead) → lead ≡ leadOf xs w → lead ≡ leadOf xs (lead .row)
 unfolding leadOf
 own-lead xs w lead e = e ∙ ap (leadOf xs) (sym (ap (λ (l : Lead). l .row) e))
+
+-- a lead with more than half of the places is the row found most often
+pub lead-most : (xs : List ℕ) (lead : Lead) → lead ≡ leadOf xs (lead .row) → length xs / 2 < lead .support →
+    lead ≡ leadOf xs (most xs)
+lead-most xs lead e h = go (ℕ-discrete (lead .row) 0)
+  where
+    is : lead .support ≡ support xs (lead .row)
+    is = lead-support xs lead 0 e
+
+    go : Dec (lead .row ≡ 0) → lead ≡ leadOf xs (most xs)
+    go (yes z) = absurd (omega (arith, is, ap (support xs) z, support-zero xs))
+    go (no z) =
+        e
+        ∙ ap (leadOf xs)
+        (sym (most-majority xs (lead .row) z (omega (arith, is, support-places xs (lead .row) z))))

@@ -2,42 +2,40 @@
 -- since two rows that stand n − t times each are one row where 3t < n.
 -- Assumes nothing.
 use mathlib.Core.Path.{_≡_, refl, sym, ap, _∙_}
-use mathlib.Core.Bool.{Bool, false, not, _&&_}
+use mathlib.Core.Bool.{Bool, true, false, not, _&&_}
 use mathlib.Core.List.{List}
-use mathlib.Core.Logic.{⊎-elim}
 use Prim.Native.Nat.{ℕ, _*_, _≤_, _<_}
 use lib.Dec.{eqb, ltb}
 use lib.ListN.{length, getD}
 use borrow.Author.Tests.{eq-eqb, le-ltb}
-use Rattle.counting.specs.Count.{any}
 use Rattle.counting.specs.Refuse.{firstOf}
-use Rattle.counting.proofs.Bools.{either, and-left, and-right, not-of-true, never, cond-false}
-use Rattle.counting.proofs.Count.{Some, any-some, none-any}
+use Rattle.counting.proofs.Bools.{not-of-true, cond-false}
+use Rattle.counting.proofs.Count.{none-any}
 use Rattle.sizes.proofs.Laws.{inside, tolerated}
 use Rattle.tally.specs.declared.Voted.{Voted}
 use Rattle.tally.specs.declared.Graded.{Graded}
 use Rattle.tally.specs.declared.Chosen.{Chosen}
-use Rattle.tally.specs.Tally.{carried, voteOf, twoRows, rival, confidenceOf, gradedRow, chosenRow, above2}
+use Rattle.tally.specs.Tally.{carried, voteOf, twoRows, confidenceOf, gradedRow, chosenRow, above2}
 use Rattle.tally.specs.Reply.{gradeRefusal, choiceRefusal, voteReply, gradeReply, choiceReply}
-use Rattle.tally.proofs.Carried.{two-rows}
-use Rattle.tally.proofs.Laws.{carried-is, vote-is}
+use Rattle.tally.proofs.Laws.{carried-is, carried-one}
 use Rattle.tally.proofs.Replies.{Sized, vote-passes, vote-taken, grade-taken, choice-taken}
 
 -- no two different rows stand n − t times each
 pub never-two : (t : ℕ) (xs : List ℕ) → 3 * t < length xs → twoRows t xs ≡ false
-unfolding rival
-never-two t xs h = two-rows t xs ∙ ⊎-elim (λ e. absurd (rivals (any-some (length xs) is e))) (λ e. e) (either (any (length xs) is))
+unfolding twoRows
+never-two t xs h = none-any (length xs) _ (λ i bi. none-any (length xs) _ (λ j bj. apart i j (is i) refl (is j) refl))
   where
     is : ℕ → Bool
-    is k = carried t xs (getD xs k 0) && not (eqb (getD xs k 0) (voteOf t xs))
+    is k = carried t xs (getD xs k 0)
 
-    rivals : Some (length xs) is → ⊥
-    rivals s =
-        let v = getD xs (s .at) 0 in
-        never (and-right (carried t xs v) (not (eqb v (voteOf t xs))) (s .passes))
-        (not-of-true
-        (eq-eqb v (voteOf t xs)
-        (sym (vote-is t xs h v (carried-is t xs v (and-left (carried t xs v) (not (eqb v (voteOf t xs))) (s .passes)))))))
+    -- two carried rows are one row
+    apart : (i j : ℕ) (a : Bool) → is i ≡ a → (b : Bool) → is j ≡ b → a && b && not (eqb (getD xs i 0) (getD xs j 0)) ≡ false
+    apart i j false e b f = refl
+    apart i j true e false f = refl
+    apart i j true e true f =
+        not-of-true
+        (eq-eqb (getD xs i 0) (getD xs j 0)
+        (carried-one t xs h (getD xs i 0) (getD xs j 0) (carried-is t xs (getD xs i 0) e) (carried-is t xs (getD xs j 0) f)))
 
 pub sized-passes : (n t : ℕ) → Sized n t → gradeRefusal n t ≡ 0
 unfolding gradeRefusal firstOf

@@ -22,10 +22,6 @@ twoRows t xs =
     any (length xs) (λ j.
     carried t xs (getD xs i 0) && carried t xs (getD xs j 0) && not (eqb (getD xs i 0) (getD xs j 0))))
 
--- does a row other than the given one stand n − t times or more?
-unfoldable pub rival : ℕ → List ℕ → ℕ → Bool
-rival t xs row = any (length xs) (λ k. carried t xs (getD xs k 0) && not (eqb (getD xs k 0) row))
-
 -- step 4: the number of places of the row found most often
 unfoldable pub supportOf : List ℕ → ℕ
 supportOf xs = support xs (most xs)

@@ -1,11 +1,11 @@
 // The vote of step 3, the grade of step 4 and the choice of step 5, each by itself over lent slices of rows.
 ghost use mathlib.Core.Path.{_≡_};
 ghost use mathlib.Core.Bool.{cond, _&&_};
-ghost use Prim.Native.Nat.{_≤_};
+ghost use Prim.Native.Nat.{_*_, _≤_, _<_};
 ghost use lib.ListN.{length, take};
 ghost use lib.Dec.{eqb, ltb};
 ghost use Rattle.counting.specs.Most.{places, support, before, most};
-ghost use Rattle.tally.specs.Tally.{carried, voteOf, rival, confidenceAt, counted, firmFor, above2};
+ghost use Rattle.tally.specs.Tally.{carried, voteOf, confidenceAt, counted, firmFor, above2};
 ghost use Rattle.tally.specs.Reply.{gradeRefusal, voteReply, leadOf, gradeReply, choiceRefusal, choiceReply};
 
 // The reply of a vote: the row that stands at least n − t times, or 0.
@@ -70,53 +70,33 @@ fn places_of(rows: &[u64], v: u64) -> usize
     found
 }
 
-// The row so far, or v where v is another row that stands at least n − t times.
-fn outvoted(rows: &[u64], t: u8, row: u64, v: u64) -> u64
+// Is v a non-zero row that stands at least n − t times?
+fn is_carried(rows: &[u64], t: u8, v: u64) -> bool
     requires { ⌜ t ≤ length (now rows) ⌝ }
-    ensures { λ r. ⌜ r ≡ cond (carried t (now (rows .entry)) v) v row ⌝ }
+    ensures { λ r. ⌜ r ≡ carried t (now (rows .entry)) v ⌝ }
 {
     if v == 0 {
-        return row;
+        return false;
     }
-    if v == row {
-        return row;
-    }
-    if places_of(rows, v) < rows.len() - (t as usize) {
-        return row;
-    }
-    v
+    rows.len() - (t as usize) <= places_of(rows, v)
 }
 
-// The non-zero row that stands at least n − t times, or 0.
+// The non-zero row that stands at least n − t times, or 0. No second row can, so the first one found is the vote.
 fn vote_of(rows: &[u64], t: u8) -> u64
-    requires { ⌜ t ≤ length (now rows) ⌝ }
+    requires { ⌜ 3 * t < length (now rows) ⌝ }
     ensures { λ r. ⌜ r ≡ voteOf t (now (rows .entry)) ⌝ }
 {
-    let mut row: u64 = 0;
     let mut i: usize = 0;
     while i < rows.len() {
-        row = outvoted(rows, t, row, rows[i]);
-        i += 1;
-    }
-    row
-}
-
-// Does a row other than the given one stand at least n − t times?
-fn has_rival(rows: &[u64], t: u8, row: u64) -> bool
-    requires { ⌜ t ≤ length (now rows) ⌝ }
-    ensures { λ r. ⌜ r ≡ rival t (now (rows .entry)) row ⌝ }
-{
-    let mut i: usize = 0;
-    while i < rows.len() {
-        if outvoted(rows, t, row, rows[i]) != row {
-            return true;
+        if is_carried(rows, t, rows[i]) {
+            return rows[i];
         }
         i += 1;
     }
-    false
+    0
 }
 
-// The vote of step 3: the non-zero row that stands at least n − t times, or 0. Refusals 4, 5, 7.
+// The vote of step 3: the non-zero row that stands at least n − t times, or 0. Refusals 4, 5, 7; after 4 and 5 no slice gives 7.
 pub fn vote(rows: &[u64], t: u8) -> Voted
     ensures { λ r. ⌜ r ≡ voteReply (now (rows .entry)) t ⌝ }
 {
@@ -124,14 +104,10 @@ pub fn vote(rows: &[u64], t: u8) -> Voted
     if refusal != 0 {
         return Voted { refusal, row: 0 };
     }
-    let row = vote_of(rows, t);
-    if row == 0 {
-        return Voted { refusal: 0, row: 0 };
+    Voted {
+        refusal: 0,
+        row: vote_of(rows, t),
     }
-    if has_rival(rows, t, row) {
-        return Voted { refusal: 7, row: 0 };
-    }
-    Voted { refusal: 0, row }
 }
 
 // The support of v: its places, and none for 0.
@@ -165,7 +141,7 @@ fn ahead(rows: &[u64], lead: Lead, v: u64) -> Lead
     lead
 }
 
-// The non-zero row found most often, the lowest on a tie, with its support.
+// The non-zero row found most often, the lowest on a tie, with its support. A row in more than half of the places ends the search.
 fn lead_of(rows: &[u64]) -> Lead
     ensures { λ r. ⌜ r ≡ leadOf (now (rows .entry)) (most (now (rows .entry))) ⌝ }
 {
@@ -173,6 +149,9 @@ fn lead_of(rows: &[u64]) -> Lead
     let mut i: usize = 0;
     while i < rows.len() {
         lead = ahead(rows, lead, rows[i]);
+        if rows.len() / 2 < lead.support {
+            return lead;
+        }
         i += 1;
     }
     lead

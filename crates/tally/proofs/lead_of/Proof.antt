@@ -1,12 +1,12 @@
--- `tally::lead_of` meets its contract: after i turns the lead is the best of the first i rows, with its support. What is left of the
--- length falls. Assumes nothing.
+-- `tally::lead_of` meets its contract: after i turns the lead is the best of the first i rows, with its support; a lead with more than half of
+-- the places is the best of all. What is left of the length falls. Assumes nothing.
 use mathlib.Core.Path.{_≡_, refl}
 use Prim.Native.Nat.{_≤_, _-_}
 use native.Mathlib.Omega.{arith}
 use lib.ListN.{length}
 use Rattle.counting.specs.Most.{best, most, support}
 use Rattle.tally.specs.Reply.{leadOf}
-use Rattle.tally.proofs.Leads.{lead-turn, own-lead}
+use Rattle.tally.proofs.Leads.{lead-turn, own-lead, lead-most}
 use borrow.Author.Needs.{needs}
 use Rattle.tally.proofs.lead_of.Statement.{statement}
 use Rattle.tally.proofs.lead_of.Tie as tie
@@ -30,6 +30,9 @@ shared-slice-read-ahead c = search needs
 ahead-requires : tie.Need-ahead-requires Inv-loop μ-loop
 ahead-requires c κs = own-lead _ _ _ (c .before .before .loop .inv .1)
 
+returns : tie.Need-returns Inv-loop μ-loop
+returns c = lead-most _ _ (own-lead _ _ _ (lead-turn _ _ _ _ (c .before .before .before .before .before .loop .inv .1) (c .before .before .ahead .ensures))) (c .if1 .taken)
+
 add-i : tie.Need-add-i Inv-loop μ-loop
 add-i c = search needs
 
@@ -37,11 +40,11 @@ loop-less : tie.Need-loop-less Inv-loop μ-loop
 loop-less c = search needs
 
 loop-again : tie.Need-loop-again Inv-loop μ-loop
-loop-again c = (search needs, lead-turn _ _ _ _ (c .before .before .before .loop .inv .1) (c .ahead .ensures))
+loop-again c = (search needs, lead-turn _ _ _ _ (c .before .before .before .before .before .loop .inv .1) (c .before .before .ahead .ensures))
 
-returns : tie.Need-returns Inv-loop μ-loop
+returns-2 : tie.Need-returns-2 Inv-loop μ-loop
 unfolding most
-returns c = let whole : c .before .loop .i ≡ length (c .before .before .before .args .rows .now) = omega arith in rw (← whole) (c .before .loop .inv .1)
+returns-2 c = let whole : c .before .loop .i ≡ length (c .before .before .before .args .rows .now) = omega arith in rw (← whole) (c .before .loop .inv .1)
 
 pub lead-of-spec : {M : Type 1} → statement M
 lead-of-spec =
@@ -53,7 +56,8 @@ lead-of-spec =
     mul-ahead
     shared-slice-read-ahead
     ahead-requires
+    returns
     add-i
     loop-less
     loop-again
-    returns)
+    returns-2)
