@@ -104,10 +104,8 @@ pub fn vote(rows: &[u64], t: u8) -> Voted
     if refusal != 0 {
         return Voted { refusal, row: 0 };
     }
-    Voted {
-        refusal: 0,
-        row: vote_of(rows, t),
-    }
+    let row = vote_of(rows, t);
+    Voted { refusal: 0, row }
 }
 
 // The support of v: its places, and none for 0.
