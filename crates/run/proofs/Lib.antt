@@ -5,4 +5,5 @@ pub mod Entries
 pub mod Kept
 pub mod Parts
 pub mod Refusals
+pub mod Unique
 pub mod Whole

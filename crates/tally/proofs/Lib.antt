@@ -3,3 +3,4 @@ pub mod Laws
 pub mod Leads
 pub mod Replies
 pub mod Taken
+pub mod Unique
