@@ -59,7 +59,7 @@ fn place_from(base: usize, n: usize, sender: usize, receiver: usize, leader: usi
 }
 
 // V[k] of box i, which a sound box sends in step 2; 0 for a faulty box.
-fn second_cell(
+fn step1_cell(
     n: usize,
     faulty: u16,
     rows: &[u64; 13],
@@ -79,7 +79,7 @@ fn second_cell(
 }
 
 // Step 1: V of every sound box, which it sends in step 2.
-fn second_cells(
+fn step1(
     n: usize,
     faulty: u16,
     rows: &[u64; 13],
@@ -93,7 +93,7 @@ fn second_cells(
     let size = n * n;
     let mut p: usize = 0;
     while p < size {
-        out[p] = second_cell(n, faulty, rows, lists, table, p / n, p % n);
+        out[p] = step1_cell(n, faulty, rows, lists, table, p / n, p % n);
         p += 1;
     }
     out
@@ -124,7 +124,7 @@ fn column(
 }
 
 // Y[k] of box i, which a sound box sends in step 3, from the V of all boxes; 0 for a faulty box.
-fn third_cell(
+fn step3_cell(
     n: usize,
     t: u8,
     faulty: u16,
@@ -145,7 +145,7 @@ fn third_cell(
 }
 
 // Steps 2 and 3: Y of every sound box, which it sends in step 3.
-fn third_cells(
+fn step3(
     n: usize,
     t: u8,
     faulty: u16,
@@ -160,14 +160,14 @@ fn third_cells(
     let size = n * n;
     let mut p: usize = 0;
     while p < size {
-        out[p] = third_cell(n, t, faulty, lists, table, second, p / n, p % n);
+        out[p] = step3_cell(n, t, faulty, lists, table, second, p / n, p % n);
         p += 1;
     }
     out
 }
 
 // Step 4 for box i and leader k, from the Y of all boxes; 0 for a faulty box.
-fn grade_cell(
+fn step4_cell(
     n: usize,
     t: u8,
     faulty: u16,
@@ -192,7 +192,7 @@ fn grade_cell(
 }
 
 // Step 4: what every sound box makes of every leader.
-fn grade_cells(
+fn step4(
     n: usize,
     t: u8,
     faulty: u16,
@@ -209,7 +209,7 @@ fn grade_cells(
     let size = n * n;
     let mut p: usize = 0;
     while p < size {
-        let graded = grade_cell(n, t, faulty, lists, table, third, p / n, p % n);
+        let graded = step4_cell(n, t, faulty, lists, table, third, p / n, p % n);
         rows[p] = graded.row;
         confidences[p] = graded.confidence;
         p += 1;
@@ -253,7 +253,7 @@ fn one_if_first(faulty: u16, j: usize, row: u64) -> usize
 }
 
 // How many sound boxes send a row in step 1.
-fn sent_first(n: usize, faulty: u16, rows: &[u64; 13]) -> usize
+fn sent_in_step1(n: usize, faulty: u16, rows: &[u64; 13]) -> usize
     requires { ⌜ n ≤ 13 ⌝ }
     ensures { λ r. ⌜ (r ≡ count n (λ j. sound faulty j && not (eqb (getD (now (rows .entry)) j 0) 0))) × (r ≤ n) ⌝ }
 {
@@ -278,9 +278,9 @@ pub fn steps(
     requires { ⌜ Ready n (now table) × (3 * t < n) ⌝ }
     ensures { λ r. ⌜ r ≡ castReply n t faulty (now (rows .entry)) (now (lists .entry)) (now (table .entry)) ⌝ }
 {
-    let second = second_cells(n, faulty, rows, lists, table);
-    let third = third_cells(n, t, faulty, lists, table, &second);
+    let second = step1(n, faulty, rows, lists, table);
+    let third = step3(n, t, faulty, lists, table, &second);
     let size = n * n;
-    let boxes = sent_first(n, faulty, rows) + sent_in(&second[..size]) + sent_in(&third[..size]);
-    grade_cells(n, t, faulty, lists, table, &third, (n * boxes) as u64)
+    let boxes = sent_in_step1(n, faulty, rows) + sent_in(&second[..size]) + sent_in(&third[..size]);
+    step4(n, t, faulty, lists, table, &third, (n * boxes) as u64)
 }

@@ -307,7 +307,7 @@ fn list_at(s: Run, confidences: &[u8], i: usize) -> u16
 }
 
 // Step 5: the thirteen rows after the iteration.
-fn next_rows<'a>(s: Run, rows: &'a [u64], confidences: &'a [u8]) -> [u64; 13]
+fn step5_rows<'a>(s: Run, rows: &'a [u64], confidences: &'a [u8]) -> [u64; 13]
     requires { ⌜ Sized s (now rows) (now confidences) ⌝ }
     ensures { λ r. ⌜ ((table : List ℕ) → GradesOf s table (now (rows .entry)) (now (confidences .entry)) → r ≡ build 13 (entry (s .n) (s .faulty) (newRow s table))) ⌝ }
 {
@@ -321,7 +321,7 @@ fn next_rows<'a>(s: Run, rows: &'a [u64], confidences: &'a [u8]) -> [u64; 13]
 }
 
 // Step 5: the thirteen lists after the iteration.
-fn next_lists(s: Run, confidences: &[u8]) -> [u16; 13]
+fn step5_lists(s: Run, confidences: &[u8]) -> [u16; 13]
     requires { ⌜ (length (now confidences) ≡ 169) × (s .n ≤ 13) ⌝ }
     ensures { λ r. ⌜ r ≡ build 13 (entry (s .n) (s .faulty) (listFrom s (now (confidences .entry)))) ⌝ }
 {
@@ -347,8 +347,8 @@ impl Run {
         let rows = self.rows;
         let lists = self.lists;
         let cast = gradecast::steps(self.n as usize, self.t, self.faulty, &rows, &lists, table);
-        let held = next_rows(self, &cast.rows, &cast.confidences);
-        let listed = next_lists(self, &cast.confidences);
+        let held = step5_rows(self, &cast.rows, &cast.confidences);
+        let listed = step5_lists(self, &cast.confidences);
         let run = Run {
             n: self.n,
             t: self.t,

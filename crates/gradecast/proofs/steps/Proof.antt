@@ -10,77 +10,77 @@ use borrow.Author.Needs.{needs}
 use Rattle.gradecast.proofs.steps.Statement.{statement}
 use Rattle.gradecast.proofs.steps.Tie as tie
 
-second-cells-requires : tie.Need-second-cells-requires
-second-cells-requires c κs = search needs
+step1-requires : tie.Need-step1-requires
+step1-requires c κs = search needs
 
-third-cells-requires : tie.Need-third-cells-requires
-third-cells-requires c κs = search needs
+step3-requires : tie.Need-step3-requires
+step3-requires c κs = search needs
 
 mul-size : tie.Need-mul-size
 mul-size c = omega (arith, square-le (c .before .before .before .before .pre .0 .high))
 
-sent-first-requires : tie.Need-sent-first-requires
-sent-first-requires c κs = search needs
+sent-in-step1-requires : tie.Need-sent-in-step1-requires
+sent-in-step1-requires c κs = search needs
 
 array-share-prefix-second : tie.Need-array-share-prefix-second
-array-share-prefix-second c = front-within _ _ _ (c .before .before .before .before .before .pre .0 .high) (c .before .before .before .second-cells .ensures)
+array-share-prefix-second c = front-within _ _ _ (c .before .before .before .before .before .pre .0 .high) (c .before .before .before .step1 .ensures)
 
 slice-aggregate-sent-in : tie.Need-slice-aggregate-sent-in
-slice-aggregate-sent-in c = sym (length-front _ _ _ (c .before .before .before .before .second-cells .ensures))
+slice-aggregate-sent-in c = sym (length-front _ _ _ (c .before .before .before .before .step1 .ensures))
 
 sent-in-requires : tie.Need-sent-in-requires
 sent-in-requires c κs = search needs
 
 add-boxes : tie.Need-add-boxes
 add-boxes c =
-    let m = length-front _ _ _ (c .before .before .before .before .before .second-cells .ensures) in
-    omega (arith, square-le (c .before .before .before .before .before .before .before .pre .0 .high), c .before .before .before .before .before .before .before .pre .0, c .before .before .sent-first .ensures .1, c .sent-in .ensures .1)
+    let m = length-front _ _ _ (c .before .before .before .before .before .step1 .ensures) in
+    omega (arith, square-le (c .before .before .before .before .before .before .before .pre .0 .high), c .before .before .before .before .before .before .before .pre .0, c .before .before .sent-in-step1 .ensures .1, c .sent-in .ensures .1)
 
 array-share-prefix-third : tie.Need-array-share-prefix-third
-array-share-prefix-third c = front-within _ _ _ (c .before .before .before .before .before .before .before .pre .0 .high) (c .before .before .before .third-cells .ensures (c .before .before .before .before .before .before .before .args .rows .now) (c .before .before .before .before .before .second-cells .ensures))
+array-share-prefix-third c = front-within _ _ _ (c .before .before .before .before .before .before .before .pre .0 .high) (c .before .before .before .step3 .ensures (c .before .before .before .before .before .before .before .args .rows .now) (c .before .before .before .before .before .step1 .ensures))
 
 slice-aggregate-sent-in-2 : tie.Need-slice-aggregate-sent-in-2
-slice-aggregate-sent-in-2 c = sym (length-front _ _ _ (c .before .before .before .before .third-cells .ensures (c .before .before .before .before .before .before .before .before .args .rows .now) (c .before .before .before .before .before .before .second-cells .ensures)))
+slice-aggregate-sent-in-2 c = sym (length-front _ _ _ (c .before .before .before .before .step3 .ensures (c .before .before .before .before .before .before .before .before .args .rows .now) (c .before .before .before .before .before .before .step1 .ensures)))
 
 sent-in-requires-2 : tie.Need-sent-in-requires-2
 sent-in-requires-2 c κs = search needs
 
 add-boxes-2 : tie.Need-add-boxes-2
 add-boxes-2 c =
-    let m = length-front _ _ _ (c .before .before .before .before .before .before .before .second-cells .ensures) in
-    let k = length-front _ _ _ (c .before .before .before .before .before .third-cells .ensures (c .before .before .before .before .before .before .before .before .before .args .rows .now) (c .before .before .before .before .before .before .before .second-cells .ensures)) in
+    let m = length-front _ _ _ (c .before .before .before .before .before .before .before .step1 .ensures) in
+    let k = length-front _ _ _ (c .before .before .before .before .before .step3 .ensures (c .before .before .before .before .before .before .before .before .before .args .rows .now) (c .before .before .before .before .before .before .before .step1 .ensures)) in
     omega
-    (arith, square-le (c .before .before .before .before .before .before .before .before .before .pre .0 .high), c .before .before .before .before .before .before .before .before .before .pre .0, c .before .before .before .before .sent-first .ensures .1, c .before .before .sent-in .ensures .1, c .sent-in2 .ensures .1)
+    (arith, square-le (c .before .before .before .before .before .before .before .before .before .pre .0 .high), c .before .before .before .before .before .before .before .before .before .pre .0, c .before .before .before .before .sent-in-step1 .ensures .1, c .before .before .sent-in .ensures .1, c .sent-in2 .ensures .1)
 
-mul-grade-cells : tie.Need-mul-grade-cells
-mul-grade-cells c =
+mul-step4 : tie.Need-mul-step4
+mul-step4 c =
     let a = c .before .before .before .before .before .before .before .before .before .before .args in
     let is =
     ap (λ (m : ℕ). c .before .before .before .before .before .before .before .before .before .before .args .n * m)
-    (ap₂ _+_ (ap₂ _+_ (c .before .before .before .before .before .sent-first .ensures .0) (c .before .before .before .sent-in .ensures .0)) (c .before .sent-in2 .ensures .0))
-    ∙ messages-counted (c .before .before .before .before .before .before .before .before .before .before .args .n) (c .before .before .before .before .before .before .before .before .before .before .args .t) (c .before .before .before .before .before .before .before .before .before .before .args .faulty) (c .before .before .before .before .before .before .before .before .before .before .args .rows .now) (c .before .before .before .before .before .before .before .before .before .before .args .lists .now) (c .before .before .before .before .before .before .before .before .before .before .args .table .now) _ _ (c .before .before .before .before .before .before .before .before .second-cells .ensures) (c .before .before .before .before .before .before .third-cells .ensures (c .before .before .before .before .before .before .before .before .before .before .args .rows .now) (c .before .before .before .before .before .before .before .before .second-cells .ensures)) in
+    (ap₂ _+_ (ap₂ _+_ (c .before .before .before .before .before .sent-in-step1 .ensures .0) (c .before .before .before .sent-in .ensures .0)) (c .before .sent-in2 .ensures .0))
+    ∙ messages-counted (c .before .before .before .before .before .before .before .before .before .before .args .n) (c .before .before .before .before .before .before .before .before .before .before .args .t) (c .before .before .before .before .before .before .before .before .before .before .args .faulty) (c .before .before .before .before .before .before .before .before .before .before .args .rows .now) (c .before .before .before .before .before .before .before .before .before .before .args .lists .now) (c .before .before .before .before .before .before .before .before .before .before .args .table .now) _ _ (c .before .before .before .before .before .before .before .before .step1 .ensures) (c .before .before .before .before .before .before .step3 .ensures (c .before .before .before .before .before .before .before .before .before .before .args .rows .now) (c .before .before .before .before .before .before .before .before .step1 .ensures)) in
     omega
     (arith, is, messages-bound (a .n) (a .t) (a .faulty) (a .rows .now) (a .lists .now) (a .table .now), table-le (c .before .before .before .before .before .before .before .before .before .before .pre .0 .high))
 
-grade-cells-requires : tie.Need-grade-cells-requires
-grade-cells-requires c κs = search needs
+step4-requires : tie.Need-step4-requires
+step4-requires c κs = search needs
 
 returns : tie.Need-returns
 returns c =
     let is =
     ap (λ (m : ℕ). c .before .before .before .before .before .before .before .before .before .before .before .args .n * m)
-    (ap₂ _+_ (ap₂ _+_ (c .before .before .before .before .before .before .sent-first .ensures .0) (c .before .before .before .before .sent-in .ensures .0)) (c .before .before .sent-in2 .ensures .0))
-    ∙ messages-counted (c .before .before .before .before .before .before .before .before .before .before .before .args .n) (c .before .before .before .before .before .before .before .before .before .before .before .args .t) (c .before .before .before .before .before .before .before .before .before .before .before .args .faulty) (c .before .before .before .before .before .before .before .before .before .before .before .args .rows .now) (c .before .before .before .before .before .before .before .before .before .before .before .args .lists .now) (c .before .before .before .before .before .before .before .before .before .before .before .args .table .now) _ _ (c .before .before .before .before .before .before .before .before .before .second-cells .ensures) (c .before .before .before .before .before .before .before .third-cells .ensures (c .before .before .before .before .before .before .before .before .before .before .before .args .rows .now) (c .before .before .before .before .before .before .before .before .before .second-cells .ensures)) in
-    cast-is _ _ _ _ _ _ _ (c .grade-cells .ensures .1 ∙ is) (c .grade-cells .ensures .0 (c .before .before .before .before .before .before .before .before .before .before .before .args .rows .now) (c .before .before .before .before .before .before .before .third-cells .ensures (c .before .before .before .before .before .before .before .before .before .before .before .args .rows .now) (c .before .before .before .before .before .before .before .before .before .second-cells .ensures)))
+    (ap₂ _+_ (ap₂ _+_ (c .before .before .before .before .before .before .sent-in-step1 .ensures .0) (c .before .before .before .before .sent-in .ensures .0)) (c .before .before .sent-in2 .ensures .0))
+    ∙ messages-counted (c .before .before .before .before .before .before .before .before .before .before .before .args .n) (c .before .before .before .before .before .before .before .before .before .before .before .args .t) (c .before .before .before .before .before .before .before .before .before .before .before .args .faulty) (c .before .before .before .before .before .before .before .before .before .before .before .args .rows .now) (c .before .before .before .before .before .before .before .before .before .before .before .args .lists .now) (c .before .before .before .before .before .before .before .before .before .before .before .args .table .now) _ _ (c .before .before .before .before .before .before .before .before .before .step1 .ensures) (c .before .before .before .before .before .before .before .step3 .ensures (c .before .before .before .before .before .before .before .before .before .before .before .args .rows .now) (c .before .before .before .before .before .before .before .before .before .step1 .ensures)) in
+    cast-is _ _ _ _ _ _ _ (c .step4 .ensures .1 ∙ is) (c .step4 .ensures .0 (c .before .before .before .before .before .before .before .before .before .before .before .args .rows .now) (c .before .before .before .before .before .before .before .step3 .ensures (c .before .before .before .before .before .before .before .before .before .before .before .args .rows .now) (c .before .before .before .before .before .before .before .before .before .step1 .ensures)))
 
 pub steps-spec : {M : Type 1} → statement M
 steps-spec =
     tie.close
     (tie.spec
-    second-cells-requires
-    third-cells-requires
+    step1-requires
+    step3-requires
     mul-size
-    sent-first-requires
+    sent-in-step1-requires
     array-share-prefix-second
     slice-aggregate-sent-in
     sent-in-requires
@@ -89,6 +89,6 @@ steps-spec =
     slice-aggregate-sent-in-2
     sent-in-requires-2
     add-boxes-2
-    mul-grade-cells
-    grade-cells-requires
+    mul-step4
+    step4-requires
     returns)

@@ -1,4 +1,4 @@
--- `gradecast::third_cells` meets its contract: after p turns the first p cells are filled, cell p for box p / n and leader p % n. What is left
+-- `gradecast::step3` meets its contract: after p turns the first p cells are filled, cell p for box p / n and leader p % n. What is left
 -- of n² falls. Assumes nothing.
 use mathlib.Core.Path.{_≡_, refl}
 use mathlib.Core.List.{List}
@@ -12,8 +12,8 @@ use Rattle.gradecast.specs.Steps.{heard1, voted}
 use Rattle.gradecast.specs.Cast.{ofSound, cells}
 use Rattle.gradecast.proofs.Cells.{place-among}
 use borrow.Author.Needs.{needs}
-use Rattle.gradecast.proofs.third_cells.Statement.{statement}
-use Rattle.gradecast.proofs.third_cells.Tie as tie
+use Rattle.gradecast.proofs.step3.Statement.{statement}
+use Rattle.gradecast.proofs.step3.Tie as tie
 
 abbrev Inv-loop : tie.InvT-loop
 Inv-loop n t faulty lists table second out₀ size p₀ out p =
@@ -31,14 +31,14 @@ mul-size c = omega (arith, square-le (c .before .pre .0 .high))
 loop-holds : tie.Need-loop-holds Inv-loop μ-loop
 loop-holds c = (search needs, refl, λ rows e. front-none _ (replicate 169 0))
 
-div-third-cell : tie.Need-div-third-cell Inv-loop μ-loop
-div-third-cell c = omega (arith, c .before .before .before .pre .0 .low)
+div-step3-cell : tie.Need-div-step3-cell Inv-loop μ-loop
+div-step3-cell c = omega (arith, c .before .before .before .pre .0 .low)
 
-rem-third-cell : tie.Need-rem-third-cell Inv-loop μ-loop
-rem-third-cell c = omega (arith, c .before .before .before .pre .0 .low)
+rem-step3-cell : tie.Need-rem-step3-cell Inv-loop μ-loop
+rem-step3-cell c = omega (arith, c .before .before .before .pre .0 .low)
 
-third-cell-requires : tie.Need-third-cell-requires Inv-loop μ-loop
-third-cell-requires c κs = (c .before .before .before .pre .0, place-among _ _ (c .before .before .before .pre .0 .low) (omega arith), c .before .before .before .pre .1)
+step3-cell-requires : tie.Need-step3-cell-requires Inv-loop μ-loop
+step3-cell-requires c κs = (c .before .before .before .pre .0, place-among _ _ (c .before .before .before .pre .0 .low) (omega arith), c .before .before .before .pre .1)
 
 mul-out : tie.Need-mul-out Inv-loop μ-loop
 mul-out c = omega (arith, square-le (c .before .before .before .before .pre .0 .high))
@@ -57,24 +57,24 @@ loop-again c = (
   omega arith,
   refl,
   λ rows e.
-      front-turn _ _ (replicate 169 0) _ (omega (arith, square-le (c .before .before .before .before .pre .0 .high))) (c .before .before .loop .inv .2 rows e) (c .third-cell .ensures rows e),
+      front-turn _ _ (replicate 169 0) _ (omega (arith, square-le (c .before .before .before .before .pre .0 .high))) (c .before .before .loop .inv .2 rows e) (c .step3-cell .ensures rows e),
 )
 
 returns : tie.Need-returns Inv-loop μ-loop
 unfolding cells
 returns c = λ rows e. front-whole _ (replicate 169 0) (omega arith) (c .before .loop .inv .2 rows e)
 
-pub third-cells-spec : {M : Type 1} → statement M
-third-cells-spec =
+pub step3-spec : {M : Type 1} → statement M
+step3-spec =
     tie.close
     (tie.spec
     Inv-loop
     μ-loop
     mul-size
     loop-holds
-    div-third-cell
-    rem-third-cell
-    third-cell-requires
+    div-step3-cell
+    rem-step3-cell
+    step3-cell-requires
     mul-out
     array-write-out
     add-p

@@ -1,4 +1,4 @@
--- `gradecast::third_cell` meets its contract: a faulty box's cell is 0; a sound one's column is that of step 2 in the document, and the vote
+-- `gradecast::step3_cell` meets its contract: a faulty box's cell is 0; a sound one's column is that of step 2 in the document, and the vote
 -- over it is its Y. Assumes nothing.
 use mathlib.Core.Path.{sym, ap, _∙_}
 use native.Mathlib.Omega.{arith}
@@ -12,8 +12,8 @@ use Rattle.gradecast.proofs.Columns.{column-2, column-length, column-pa
 use Rattle.gradecast.proofs.Places.{second-fits}
 use Rattle.gradecast.proofs.Sound.{of-faulty, of-sound}
 use borrow.Author.Needs.{needs}
-use Rattle.gradecast.proofs.third_cell.Statement.{statement}
-use Rattle.gradecast.proofs.third_cell.Tie as tie
+use Rattle.gradecast.proofs.step3_cell.Statement.{statement}
+use Rattle.gradecast.proofs.step3_cell.Tie as tie
 
 is-member-requires : tie.Need-is-member-requires
 is-member-requires c κs = search needs
@@ -53,8 +53,8 @@ returns-2 c =
     ∙ ap (voteOf _) (ap (take (c .before .before .before .before .before .before .before .args .n)) col ∙ column-2 _ _ _ _ _ _ _ (p .1 .is-leader) rows e)
     ∙ sym (of-sound _ _ _ _ (sym (c .before .before .before .before .before .is-member .ensures) ∙ c .before .before .before .before .if1 .left))
 
-pub third-cell-spec : {M : Type 1} → statement M
-third-cell-spec =
+pub step3-cell-spec : {M : Type 1} → statement M
+step3-cell-spec =
     tie.close
     (tie.spec
     is-member-requires

@@ -1,4 +1,4 @@
--- `run::next_rows` meets its contract: after i turns the first i rows are filled. What is left of 13 falls. Assumes nothing.
+-- `run::step5_rows` meets its contract: after i turns the first i rows are filled. What is left of 13 falls. Assumes nothing.
 use mathlib.Core.Path.{_≡_, refl}
 use mathlib.Core.List.{List}
 use Prim.Native.Nat.{ℕ, _≤_, _-_}
@@ -9,8 +9,8 @@ use Rattle.counting.proofs.Build.{front-none, front-turn, front-whole, front-al
 use Rattle.run.specs.Grades.{GradesOf}
 use Rattle.run.specs.Iteration.{newRow, entry}
 use borrow.Author.Needs.{needs}
-use Rattle.run.proofs.next_rows.Statement.{statement}
-use Rattle.run.proofs.next_rows.Tie as tie
+use Rattle.run.proofs.step5_rows.Statement.{statement}
+use Rattle.run.proofs.step5_rows.Tie as tie
 
 abbrev Inv-loop : tie.InvT-loop
 Inv-loop s rows confidences out₀ i₀ out i =
@@ -45,8 +45,8 @@ loop-again c = (search needs, λ table g. front-turn _ _ (replicate 13 0) _ (sea
 returns : tie.Need-returns Inv-loop μ-loop
 returns c = λ table g. front-all _ (replicate 13 0) 13 refl (front-whole _ (replicate 13 0) (omega arith) (c .before .loop .inv .1 table g))
 
-pub next-rows-spec : {M : Type 1} → statement M
-next-rows-spec =
+pub step5-rows-spec : {M : Type 1} → statement M
+step5-rows-spec =
     tie.close
     (tie.spec
     Inv-loop

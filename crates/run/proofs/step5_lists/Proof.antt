@@ -1,4 +1,4 @@
--- `run::next_lists` meets its contract: after i turns the first i lists are filled. What is left of 13 falls. Assumes nothing.
+-- `run::step5_lists` meets its contract: after i turns the first i lists are filled. What is left of 13 falls. Assumes nothing.
 use mathlib.Core.Path.{_≡_, refl}
 use Prim.Native.Nat.{_≤_, _-_}
 use native.Mathlib.Omega.{arith}
@@ -8,8 +8,8 @@ use Rattle.counting.proofs.Build.{front-none, front-turn, front-whole, front-al
 use Rattle.run.specs.Grades.{listFrom}
 use Rattle.run.specs.Iteration.{entry}
 use borrow.Author.Needs.{needs}
-use Rattle.run.proofs.next_lists.Statement.{statement}
-use Rattle.run.proofs.next_lists.Tie as tie
+use Rattle.run.proofs.step5_lists.Statement.{statement}
+use Rattle.run.proofs.step5_lists.Tie as tie
 
 abbrev Inv-loop : tie.InvT-loop
 Inv-loop s confidences out₀ i₀ out i = (i ≤ 13) × (out ≡ front i (entry (s .n) (s .faulty) (listFrom s confidences)) (replicate 13 0))
@@ -41,8 +41,8 @@ loop-again c = (search needs, front-turn _ _ (replicate 13 0) _ (search needs) (
 returns : tie.Need-returns Inv-loop μ-loop
 returns c = front-all _ (replicate 13 0) 13 refl (front-whole _ (replicate 13 0) (omega arith) (c .before .loop .inv .1))
 
-pub next-lists-spec : {M : Type 1} → statement M
-next-lists-spec =
+pub step5-lists-spec : {M : Type 1} → statement M
+step5-lists-spec =
     tie.close
     (tie.spec
     Inv-loop

@@ -1,4 +1,4 @@
--- `gradecast::sent_first` meets its contract: after j turns it has counted the sound boxes below j that have a row. What is left of n falls.
+-- `gradecast::sent_in_step1` meets its contract: after j turns it has counted the sound boxes below j that have a row. What is left of n falls.
 -- Assumes nothing.
 use mathlib.Core.Path.{_≡_}
 use mathlib.Core.Bool.{not, _&&_}
@@ -10,8 +10,8 @@ use Rattle.counting.specs.Count.{count}
 use Rattle.counting.proofs.Count.{count-turn, count-turn-le, counted-whole}
 use Rattle.sizes.specs.Sizes.{sound}
 use borrow.Author.Needs.{needs}
-use Rattle.gradecast.proofs.sent_first.Statement.{statement}
-use Rattle.gradecast.proofs.sent_first.Tie as tie
+use Rattle.gradecast.proofs.sent_in_step1.Statement.{statement}
+use Rattle.gradecast.proofs.sent_in_step1.Tie as tie
 
 abbrev Inv-loop : tie.InvT-loop
 Inv-loop n faulty rows sent₀ j₀ sent j = (j ≤ n) × (sent ≡ count j (λ k. sound faulty k && not (eqb (getD rows k 0) 0)))
@@ -47,8 +47,8 @@ loop-again c = (search needs, count-turn _ _ (c .before .before .before .loop .i
 returns : tie.Need-returns Inv-loop μ-loop
 returns c = counted-whole _ (omega arith) (c .before .loop .inv .1)
 
-pub sent-first-spec : {M : Type 1} → statement M
-sent-first-spec =
+pub sent-in-step1-spec : {M : Type 1} → statement M
+sent-in-step1-spec =
     tie.close
     (tie.spec
     Inv-loop

@@ -1,4 +1,4 @@
--- `gradecast::grade_cells` meets its contract: after p turns the first p rows and confidences are filled, those at p for box p / n and leader
+-- `gradecast::step4` meets its contract: after p turns the first p rows and confidences are filled, those at p for box p / n and leader
 -- p % n. What is left of n² falls. Assumes nothing.
 use mathlib.Core.Path.{_≡_, refl}
 use mathlib.Core.List.{List}
@@ -12,8 +12,8 @@ use Rattle.gradecast.specs.Steps.{voted, gradeRow, confidence}
 use Rattle.gradecast.specs.Cast.{ofSound, cells}
 use Rattle.gradecast.proofs.Cells.{place-among}
 use borrow.Author.Needs.{needs}
-use Rattle.gradecast.proofs.grade_cells.Statement.{statement}
-use Rattle.gradecast.proofs.grade_cells.Tie as tie
+use Rattle.gradecast.proofs.step4.Statement.{statement}
+use Rattle.gradecast.proofs.step4.Tie as tie
 
 abbrev Inv-loop : tie.InvT-loop
 Inv-loop n t faulty lists table third sent rows₀ confidences₀ size p₀ rows confidences p =
@@ -32,14 +32,14 @@ mul-size c = omega (arith, square-le (c .before .pre .0 .high))
 loop-holds : tie.Need-loop-holds Inv-loop μ-loop
 loop-holds c = (search needs, refl, λ rows e. (front-none _ (replicate 169 0), front-none _ (replicate 169 0)))
 
-div-grade-cell : tie.Need-div-grade-cell Inv-loop μ-loop
-div-grade-cell c = omega (arith, c .before .before .before .pre .0 .low)
+div-step4-cell : tie.Need-div-step4-cell Inv-loop μ-loop
+div-step4-cell c = omega (arith, c .before .before .before .pre .0 .low)
 
-rem-grade-cell : tie.Need-rem-grade-cell Inv-loop μ-loop
-rem-grade-cell c = omega (arith, c .before .before .before .pre .0 .low)
+rem-step4-cell : tie.Need-rem-step4-cell Inv-loop μ-loop
+rem-step4-cell c = omega (arith, c .before .before .before .pre .0 .low)
 
-grade-cell-requires : tie.Need-grade-cell-requires Inv-loop μ-loop
-grade-cell-requires c κs = (c .before .before .before .pre .0, place-among _ _ (c .before .before .before .pre .0 .low) (omega arith), c .before .before .before .pre .1)
+step4-cell-requires : tie.Need-step4-cell-requires Inv-loop μ-loop
+step4-cell-requires c κs = (c .before .before .before .pre .0, place-among _ _ (c .before .before .before .pre .0 .low) (omega arith), c .before .before .before .pre .1)
 
 mul-rows : tie.Need-mul-rows Inv-loop μ-loop
 mul-rows c = omega (arith, square-le (c .before .before .before .before .pre .0 .high))
@@ -62,7 +62,7 @@ loop-again c = (
   refl,
   λ rows e.
       let so-far = c .before .before .loop .inv .2 rows e in
-      let cell = c .grade-cell .ensures rows e in (
+      let cell = c .step4-cell .ensures rows e in (
         front-turn _ _ (replicate 169 0) _ (omega (arith, square-le (c .before .before .before .before .pre .0 .high))) (so-far .0) (cell .0),
         front-turn _ _ (replicate 169 0) _ (omega (arith, square-le (c .before .before .before .before .pre .0 .high))) (so-far .1) (cell .1),
       ),
@@ -77,17 +77,17 @@ returns c = (
   refl,
 )
 
-pub grade-cells-spec : {M : Type 1} → statement M
-grade-cells-spec =
+pub step4-spec : {M : Type 1} → statement M
+step4-spec =
     tie.close
     (tie.spec
     Inv-loop
     μ-loop
     mul-size
     loop-holds
-    div-grade-cell
-    rem-grade-cell
-    grade-cell-requires
+    div-step4-cell
+    rem-step4-cell
+    step4-cell-requires
     mul-rows
     array-write-rows
     array-write-confidences

@@ -1,4 +1,4 @@
--- `gradecast::grade_cell` meets its contract: a faulty box's cell is 0; a sound one's column is that of step 3 in the document, and the grade
+-- `gradecast::step4_cell` meets its contract: a faulty box's cell is 0; a sound one's column is that of step 3 in the document, and the grade
 -- over it is that of step 4. Assumes nothing.
 use mathlib.Core.Path.{sym, ap, _∙_}
 use native.Mathlib.Omega.{arith}
@@ -12,8 +12,8 @@ use Rattle.gradecast.proofs.Columns.{column-3, column-length, column-pa
 use Rattle.gradecast.proofs.Places.{third-fits}
 use Rattle.gradecast.proofs.Sound.{of-faulty, of-sound}
 use borrow.Author.Needs.{needs}
-use Rattle.gradecast.proofs.grade_cell.Statement.{statement}
-use Rattle.gradecast.proofs.grade_cell.Tie as tie
+use Rattle.gradecast.proofs.step4_cell.Statement.{statement}
+use Rattle.gradecast.proofs.step4_cell.Tie as tie
 
 is-member-requires : tie.Need-is-member-requires
 is-member-requires c κs = search needs
@@ -73,8 +73,8 @@ returns-2 c =
           ∙ sym (of-sound _ _ _ _ is-sound),
     )
 
-pub grade-cell-spec : {M : Type 1} → statement M
-grade-cell-spec =
+pub step4-cell-spec : {M : Type 1} → statement M
+step4-cell-spec =
     tie.close
     (tie.spec
     is-member-requires

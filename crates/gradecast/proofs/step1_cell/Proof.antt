@@ -1,4 +1,4 @@
--- `gradecast::second_cell` meets its contract: a faulty box's cell is 0, and a sound one's is what it hears of the leader in step 1. Assumes
+-- `gradecast::step1_cell` meets its contract: a faulty box's cell is 0, and a sound one's is what it hears of the leader in step 1. Assumes
 -- nothing.
 use mathlib.Core.Path.{sym, ap, _∙_}
 use Prim.Native.Nat.{ℕ}
@@ -8,8 +8,8 @@ use Rattle.gradecast.specs.Steps.{hears, sends, heard1}
 use Rattle.gradecast.proofs.Places.{first-fits}
 use Rattle.gradecast.proofs.Sound.{of-faulty, of-sound}
 use borrow.Author.Needs.{needs}
-use Rattle.gradecast.proofs.second_cell.Statement.{statement}
-use Rattle.gradecast.proofs.second_cell.Tie as tie
+use Rattle.gradecast.proofs.step1_cell.Statement.{statement}
+use Rattle.gradecast.proofs.step1_cell.Tie as tie
 
 is-member-requires : tie.Need-is-member-requires
 is-member-requires c κs = search needs
@@ -44,8 +44,8 @@ returns-2 c =
     (c .before .before .before .place-of-first .ensures .0)
     ∙ sym (of-sound _ _ _ _ (sym (c .before .before .before .before .before .is-member .ensures) ∙ c .before .before .before .before .if1 .left))
 
-pub second-cell-spec : {M : Type 1} → statement M
-second-cell-spec =
+pub step1-cell-spec : {M : Type 1} → statement M
+step1-cell-spec =
     tie.close
     (tie.spec
     is-member-requires

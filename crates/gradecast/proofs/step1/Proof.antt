@@ -1,4 +1,4 @@
--- `gradecast::second_cells` meets its contract: after p turns the first p cells are filled, cell p for box p / n and leader p % n. What is left
+-- `gradecast::step1` meets its contract: after p turns the first p cells are filled, cell p for box p / n and leader p % n. What is left
 -- of n² falls. Assumes nothing.
 use mathlib.Core.Path.{_≡_, refl}
 use Prim.Native.Nat.{_*_, _/_, _%_, _-_, _≤_}
@@ -11,8 +11,8 @@ use Rattle.gradecast.specs.Steps.{heard1}
 use Rattle.gradecast.specs.Cast.{ofSound, cells}
 use Rattle.gradecast.proofs.Cells.{place-among}
 use borrow.Author.Needs.{needs}
-use Rattle.gradecast.proofs.second_cells.Statement.{statement}
-use Rattle.gradecast.proofs.second_cells.Tie as tie
+use Rattle.gradecast.proofs.step1.Statement.{statement}
+use Rattle.gradecast.proofs.step1.Tie as tie
 
 abbrev Inv-loop : tie.InvT-loop
 Inv-loop n faulty rows lists table out₀ size p₀ out p = (p ≤ n * n) × (size ≡ n * n) × (out ≡ front p (λ q. ofSound faulty (heard1 n faulty rows lists table) (q / n) (q % n)) (replicate 169 0))
@@ -26,14 +26,14 @@ mul-size c = omega (arith, square-le (c .before .pre .high))
 loop-holds : tie.Need-loop-holds Inv-loop μ-loop
 loop-holds c = (search needs, refl, front-none _ (replicate 169 0))
 
-div-second-cell : tie.Need-div-second-cell Inv-loop μ-loop
-div-second-cell c = omega (arith, c .before .before .before .pre .low)
+div-step1-cell : tie.Need-div-step1-cell Inv-loop μ-loop
+div-step1-cell c = omega (arith, c .before .before .before .pre .low)
 
-rem-second-cell : tie.Need-rem-second-cell Inv-loop μ-loop
-rem-second-cell c = omega (arith, c .before .before .before .pre .low)
+rem-step1-cell : tie.Need-rem-step1-cell Inv-loop μ-loop
+rem-step1-cell c = omega (arith, c .before .before .before .pre .low)
 
-second-cell-requires : tie.Need-second-cell-requires Inv-loop μ-loop
-second-cell-requires c κs = (c .before .before .before .pre, place-among _ _ (c .before .before .before .pre .low) (omega arith))
+step1-cell-requires : tie.Need-step1-cell-requires Inv-loop μ-loop
+step1-cell-requires c κs = (c .before .before .before .pre, place-among _ _ (c .before .before .before .pre .low) (omega arith))
 
 mul-out : tie.Need-mul-out Inv-loop μ-loop
 mul-out c = omega (arith, square-le (c .before .before .before .before .pre .high))
@@ -48,23 +48,23 @@ loop-less : tie.Need-loop-less Inv-loop μ-loop
 loop-less c = search needs
 
 loop-again : tie.Need-loop-again Inv-loop μ-loop
-loop-again c = (omega arith, refl, front-turn _ _ (replicate 169 0) _ (omega (arith, square-le (c .before .before .before .before .pre .high))) (c .before .before .loop .inv .2) (c .second-cell .ensures))
+loop-again c = (omega arith, refl, front-turn _ _ (replicate 169 0) _ (omega (arith, square-le (c .before .before .before .before .pre .high))) (c .before .before .loop .inv .2) (c .step1-cell .ensures))
 
 returns : tie.Need-returns Inv-loop μ-loop
 unfolding cells
 returns c = let whole : c .before .loop .p ≡ c .before .before .before .args .n * c .before .before .before .args .n = omega arith in rw (← whole) (c .before .loop .inv .2)
 
-pub second-cells-spec : {M : Type 1} → statement M
-second-cells-spec =
+pub step1-spec : {M : Type 1} → statement M
+step1-spec =
     tie.close
     (tie.spec
     Inv-loop
     μ-loop
     mul-size
     loop-holds
-    div-second-cell
-    rem-second-cell
-    second-cell-requires
+    div-step1-cell
+    rem-step1-cell
+    step1-cell-requires
     mul-out
     array-write-out
     add-p
