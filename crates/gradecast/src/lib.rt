@@ -79,13 +79,7 @@ fn step1_cell(
 }
 
 // Step 1: V of every sound box, which it sends in step 2.
-fn step1(
-    n: usize,
-    faulty: u16,
-    rows: &[u64; 13],
-    lists: &[u16; 13],
-    table: &[u64],
-) -> [u64; 169]
+fn step1(n: usize, faulty: u16, rows: &[u64; 13], lists: &[u16; 13], table: &[u64]) -> [u64; 169]
     requires { ⌜ Ready n (now table) ⌝ }
     ensures { λ r. ⌜ r ≡ cells n (ofSound faulty (heard1 n faulty (now (rows .entry)) (now (lists .entry)) (now (table .entry)))) ⌝ }
 {

@@ -1,14 +1,33 @@
 -- `gradecast::steps` meets its contract: the cells of step 2 and of step 3 are the document's V and Y, the grades over them are step 4's, and
 -- the rows, the cells of step 2 and the cells of step 3 that are not 0, n times, are the messages. Assumes nothing.
-use mathlib.Core.Path.{sym, ap, ap₂, _∙_}
+use mathlib.Core.Path.{_≡_, sym, ap, ap₂, _∙_}
 use Prim.Native.Nat.{ℕ, _+_, _*_}
 use native.Mathlib.Omega.{arith}
 use Rattle.sizes.proofs.Laws.{square-le, table-le}
+use Rattle.gradecast.specs.Steps.{voted, messages}
+use Rattle.gradecast.specs.Cast.{ofSound, cells}
 use Rattle.gradecast.proofs.Messages.{messages-bound}
 use Rattle.gradecast.proofs.Sent.{length-front, front-within, messages-counted, cast-is}
 use borrow.Author.Needs.{needs}
 use Rattle.gradecast.proofs.steps.Statement.{statement}
 use Rattle.gradecast.proofs.steps.Tie as tie
+
+-- what the sound boxes send in step 3
+third : (c : tie.After-step3) →
+    let a = c .before .before .before .before .args in
+    c .step3 .result ≡ cells (a .n) (ofSound (a .faulty) (voted (a .n) (a .t) (a .faulty) (a .rows .now) (a .lists .now) (a .table .now)))
+third c = c .step3 .ensures (c .before .before .before .before .args .rows .now) (c .before .before .step1 .ensures)
+
+-- the three counts, n times
+counted : (c : tie.After-sent-in2) →
+    let a = c .before .before .before .before .before .before .before .before .before .args in
+    a .n * (c .before .before .before .before .sent-in-step1 .result + c .before .before .sent-in .result + c .sent-in2 .result) ≡
+    messages (a .n) (a .t) (a .faulty) (a .rows .now) (a .lists .now) (a .table .now)
+counted c =
+    let a = c .before .before .before .before .before .before .before .before .before .args in
+    ap (λ (m : ℕ). a .n * m)
+    (ap₂ _+_ (ap₂ _+_ (c .before .before .before .before .sent-in-step1 .ensures .0) (c .before .before .sent-in .ensures .0)) (c .sent-in2 .ensures .0))
+    ∙ messages-counted (a .n) (a .t) (a .faulty) (a .rows .now) (a .lists .now) (a .table .now) _ _ (c .before .before .before .before .before .before .before .step1 .ensures) (third (c .before .before .before .before .before))
 
 step1-requires : tie.Need-step1-requires
 step1-requires c κs = search needs
@@ -37,10 +56,10 @@ add-boxes c =
     omega (arith, square-le (c .before .before .before .before .before .before .before .pre .0 .high), c .before .before .before .before .before .before .before .pre .0, c .before .before .sent-in-step1 .ensures .1, c .sent-in .ensures .1)
 
 array-share-prefix-third : tie.Need-array-share-prefix-third
-array-share-prefix-third c = front-within _ _ _ (c .before .before .before .before .before .before .before .pre .0 .high) (c .before .before .before .step3 .ensures (c .before .before .before .before .before .before .before .args .rows .now) (c .before .before .before .before .before .step1 .ensures))
+array-share-prefix-third c = front-within _ _ _ (c .before .before .before .before .before .before .before .pre .0 .high) (third (c .before .before .before))
 
 slice-aggregate-sent-in-2 : tie.Need-slice-aggregate-sent-in-2
-slice-aggregate-sent-in-2 c = sym (length-front _ _ _ (c .before .before .before .before .step3 .ensures (c .before .before .before .before .before .before .before .before .args .rows .now) (c .before .before .before .before .before .before .step1 .ensures)))
+slice-aggregate-sent-in-2 c = sym (length-front _ _ _ (third (c .before .before .before .before)))
 
 sent-in-requires-2 : tie.Need-sent-in-requires-2
 sent-in-requires-2 c κs = search needs
@@ -48,30 +67,22 @@ sent-in-requires-2 c κs = search needs
 add-boxes-2 : tie.Need-add-boxes-2
 add-boxes-2 c =
     let m = length-front _ _ _ (c .before .before .before .before .before .before .before .step1 .ensures) in
-    let k = length-front _ _ _ (c .before .before .before .before .before .step3 .ensures (c .before .before .before .before .before .before .before .before .before .args .rows .now) (c .before .before .before .before .before .before .before .step1 .ensures)) in
+    let k = length-front _ _ _ (third (c .before .before .before .before .before)) in
     omega
     (arith, square-le (c .before .before .before .before .before .before .before .before .before .pre .0 .high), c .before .before .before .before .before .before .before .before .before .pre .0, c .before .before .before .before .sent-in-step1 .ensures .1, c .before .before .sent-in .ensures .1, c .sent-in2 .ensures .1)
 
 mul-step4 : tie.Need-mul-step4
 mul-step4 c =
     let a = c .before .before .before .before .before .before .before .before .before .before .args in
-    let is =
-    ap (λ (m : ℕ). c .before .before .before .before .before .before .before .before .before .before .args .n * m)
-    (ap₂ _+_ (ap₂ _+_ (c .before .before .before .before .before .sent-in-step1 .ensures .0) (c .before .before .before .sent-in .ensures .0)) (c .before .sent-in2 .ensures .0))
-    ∙ messages-counted (c .before .before .before .before .before .before .before .before .before .before .args .n) (c .before .before .before .before .before .before .before .before .before .before .args .t) (c .before .before .before .before .before .before .before .before .before .before .args .faulty) (c .before .before .before .before .before .before .before .before .before .before .args .rows .now) (c .before .before .before .before .before .before .before .before .before .before .args .lists .now) (c .before .before .before .before .before .before .before .before .before .before .args .table .now) _ _ (c .before .before .before .before .before .before .before .before .step1 .ensures) (c .before .before .before .before .before .before .step3 .ensures (c .before .before .before .before .before .before .before .before .before .before .args .rows .now) (c .before .before .before .before .before .before .before .before .step1 .ensures)) in
+    let sent = counted (c .before) in
     omega
-    (arith, is, messages-bound (a .n) (a .t) (a .faulty) (a .rows .now) (a .lists .now) (a .table .now), table-le (c .before .before .before .before .before .before .before .before .before .before .pre .0 .high))
+    (arith, sent, messages-bound (a .n) (a .t) (a .faulty) (a .rows .now) (a .lists .now) (a .table .now), table-le (c .before .before .before .before .before .before .before .before .before .before .pre .0 .high))
 
 step4-requires : tie.Need-step4-requires
 step4-requires c κs = search needs
 
 returns : tie.Need-returns
-returns c =
-    let is =
-    ap (λ (m : ℕ). c .before .before .before .before .before .before .before .before .before .before .before .args .n * m)
-    (ap₂ _+_ (ap₂ _+_ (c .before .before .before .before .before .before .sent-in-step1 .ensures .0) (c .before .before .before .before .sent-in .ensures .0)) (c .before .before .sent-in2 .ensures .0))
-    ∙ messages-counted (c .before .before .before .before .before .before .before .before .before .before .before .args .n) (c .before .before .before .before .before .before .before .before .before .before .before .args .t) (c .before .before .before .before .before .before .before .before .before .before .before .args .faulty) (c .before .before .before .before .before .before .before .before .before .before .before .args .rows .now) (c .before .before .before .before .before .before .before .before .before .before .before .args .lists .now) (c .before .before .before .before .before .before .before .before .before .before .before .args .table .now) _ _ (c .before .before .before .before .before .before .before .before .before .step1 .ensures) (c .before .before .before .before .before .before .before .step3 .ensures (c .before .before .before .before .before .before .before .before .before .before .before .args .rows .now) (c .before .before .before .before .before .before .before .before .before .step1 .ensures)) in
-    cast-is _ _ _ _ _ _ _ (c .step4 .ensures .1 ∙ is) (c .step4 .ensures .0 (c .before .before .before .before .before .before .before .before .before .before .before .args .rows .now) (c .before .before .before .before .before .before .before .step3 .ensures (c .before .before .before .before .before .before .before .before .before .before .before .args .rows .now) (c .before .before .before .before .before .before .before .before .before .step1 .ensures)))
+returns c = cast-is _ _ _ _ _ _ _ (c .step4 .ensures .1 ∙ counted (c .before .before)) (c .step4 .ensures .0 (c .before .before .before .before .before .before .before .before .before .before .before .args .rows .now) (third (c .before .before .before .before .before .before .before)))
 
 pub steps-spec : {M : Type 1} → statement M
 steps-spec =

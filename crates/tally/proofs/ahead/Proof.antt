@@ -12,31 +12,42 @@ use Rattle.tally.proofs.ahead.Tie as tie
 
 returns : tie.Need-returns
 returns c =
-    keeps-lead (c .before .before .before .args .rows .now) (c .before .before .before .args .lead) (c .before .before .before .args .v) (c .before .before .before .pre)
-    (ap (before (c .before .before .before .args .rows .now) (c .before .before .before .args .lead .row)) (c .if1 .taken) ∙ before-self (c .before .before .before .args .rows .now) (c .before .before .before .args .lead .row))
+    let a = c .before .before .before .args in
+    let xs = a .rows .now in
+    keeps-lead xs (a .lead) (a .v) (c .before .before .before .pre) (ap (before xs (a .lead .row)) (c .if1 .taken) ∙ before-self xs (a .lead .row))
 
 support-of-requires : tie.Need-support-of-requires
 support-of-requires c κs = search needs
 
 returns-2 : tie.Need-returns-2
 returns-2 c =
-    takes-lead (c .before .before .before .before .before .before .args .rows .now) (c .before .before .before .before .before .before .args .lead) (c .before .before .before .before .before .before .args .v) (c .before .before .support-of .result) (c .before .before .support-of .ensures)
-    (before-more (c .before .before .before .before .before .before .args .rows .now) (c .before .before .before .before .before .before .args .lead .row) (c .before .before .before .before .before .before .args .v) (omega (arith, lead-support (c .before .before .before .before .before .before .args .rows .now) (c .before .before .before .before .before .before .args .lead) (c .before .before .before .before .before .before .args .v) (c .before .before .before .before .before .before .pre), c .before .before .support-of .ensures)))
+    let a = c .before .before .before .before .before .before .args in
+    let xs = a .rows .now in
+    let s = c .before .before .support-of in
+    takes-lead xs (a .lead) (a .v) (s .result) (s .ensures) (before-more xs (a .lead .row) (a .v) (omega (arith, lead-support xs (a .lead) (a .v) (c .before .before .before .before .before .before .pre), s .ensures)))
 
 returns-3 : tie.Need-returns-3
 returns-3 c =
-    keeps-lead (c .before .before .before .before .before .before .before .before .args .rows .now) (c .before .before .before .before .before .before .before .before .args .lead) (c .before .before .before .before .before .before .before .before .args .v) (c .before .before .before .before .before .before .before .before .pre)
-    (before-fewer (c .before .before .before .before .before .before .before .before .args .rows .now) (c .before .before .before .before .before .before .before .before .args .lead .row) (c .before .before .before .before .before .before .before .before .args .v) (omega (arith, lead-support (c .before .before .before .before .before .before .before .before .args .rows .now) (c .before .before .before .before .before .before .before .before .args .lead) (c .before .before .before .before .before .before .before .before .args .v) (c .before .before .before .before .before .before .before .before .pre), c .before .before .before .before .support-of .ensures)))
+    let a = c .before .before .before .before .before .before .before .before .args in
+    let xs = a .rows .now in
+    let s = c .before .before .before .before .support-of in
+    keeps-lead xs (a .lead) (a .v) (c .before .before .before .before .before .before .before .before .pre) (before-fewer xs (a .lead .row) (a .v) (omega (arith, lead-support xs (a .lead) (a .v) (c .before .before .before .before .before .before .before .before .pre), s .ensures)))
 
 returns-4 : tie.Need-returns-4
 returns-4 c =
-    let tie = before-tie (c .before .before .before .before .before .before .before .before .before .before .args .rows .now) (c .before .before .before .before .before .before .before .before .before .before .args .lead .row) (c .before .before .before .before .before .before .before .before .before .before .args .v) (omega (arith, lead-support (c .before .before .before .before .before .before .before .before .before .before .args .rows .now) (c .before .before .before .before .before .before .before .before .before .before .args .lead) (c .before .before .before .before .before .before .before .before .before .before .args .v) (c .before .before .before .before .before .before .before .before .before .before .pre), c .before .before .before .before .before .before .support-of .ensures)) in
-    takes-lead (c .before .before .before .before .before .before .before .before .before .before .args .rows .now) (c .before .before .before .before .before .before .before .before .before .before .args .lead) (c .before .before .before .before .before .before .before .before .before .before .args .v) (c .before .before .before .before .before .before .support-of .result) (c .before .before .before .before .before .before .support-of .ensures) (tie ∙ lt-ltb _ _ (c .if4 .taken))
+    let a = c .before .before .before .before .before .before .before .before .before .before .args in
+    let xs = a .rows .now in
+    let s = c .before .before .before .before .before .before .support-of in
+    let tie = before-tie xs (a .lead .row) (a .v) (omega (arith, lead-support xs (a .lead) (a .v) (c .before .before .before .before .before .before .before .before .before .before .pre), s .ensures)) in
+    takes-lead xs (a .lead) (a .v) (s .result) (s .ensures) (tie ∙ lt-ltb _ _ (c .if4 .taken))
 
 returns-5 : tie.Need-returns-5
 returns-5 c =
-    let tie = before-tie (c .before .before .before .before .before .before .before .before .before .before .args .rows .now) (c .before .before .before .before .before .before .before .before .before .before .args .lead .row) (c .before .before .before .before .before .before .before .before .before .before .args .v) (omega (arith, lead-support (c .before .before .before .before .before .before .before .before .before .before .args .rows .now) (c .before .before .before .before .before .before .before .before .before .before .args .lead) (c .before .before .before .before .before .before .before .before .before .before .args .v) (c .before .before .before .before .before .before .before .before .before .before .pre), c .before .before .before .before .before .before .support-of .ensures)) in
-    keeps-lead (c .before .before .before .before .before .before .before .before .before .before .args .rows .now) (c .before .before .before .before .before .before .before .before .before .before .args .lead) (c .before .before .before .before .before .before .before .before .before .before .args .v) (c .before .before .before .before .before .before .before .before .before .before .pre) (tie ∙ le-ltb _ _ (c .if4 .left))
+    let a = c .before .before .before .before .before .before .before .before .before .before .args in
+    let xs = a .rows .now in
+    let s = c .before .before .before .before .before .before .support-of in
+    let tie = before-tie xs (a .lead .row) (a .v) (omega (arith, lead-support xs (a .lead) (a .v) (c .before .before .before .before .before .before .before .before .before .before .pre), s .ensures)) in
+    keeps-lead xs (a .lead) (a .v) (c .before .before .before .before .before .before .before .before .before .before .pre) (tie ∙ le-ltb _ _ (c .if4 .left))
 
 pub ahead-spec : {M : Type 1} → statement M
 ahead-spec =

@@ -2,12 +2,16 @@
 -- and the lists, and the counter grows by the messages. Assumes nothing.
 use mathlib.Core.Path.{sym, _∙_}
 use native.Mathlib.Omega.{arith}
-use Rattle.run.proofs.Accepted.{is-accepted}
+use Rattle.run.proofs.Accepted.{Accepted, is-accepted}
 use Rattle.run.proofs.Refusals.{iterate-refused, iterate-taken}
 use Rattle.run.proofs.Whole.{high, few, ready, done-small, sent-small, grades, cast-sized, next-is}
 use borrow.Author.Needs.{needs}
 use Rattle.run.proofs.Run.iterate.Statement.{statement}
 use Rattle.run.proofs.Run.iterate.Tie as tie
+
+-- where the refusal is 0 the call is accepted
+accepted : (c : tie.Else1) → Accepted (c .before .before .before .args .self) (c .before .before .before .args .table .now)
+accepted c = is-accepted _ _ (sym (c .before .iterate-refusal .ensures) ∙ c .if1 .left)
 
 iterate-refusal-requires : tie.Need-iterate-refusal-requires
 iterate-refusal-requires c κs = search needs
@@ -19,25 +23,28 @@ cast-steps : tie.Need-cast-steps
 cast-steps c = search needs
 
 steps-requires : tie.Need-steps-requires
-steps-requires c κs = (ready (c .before .before .before .before .before .before .before .before .args .self) (c .before .before .before .before .before .before .before .before .args .table .now) (is-accepted (c .before .before .before .before .before .before .before .before .args .self) (c .before .before .before .before .before .before .before .before .args .table .now) (sym (c .before .before .before .before .before .before .iterate-refusal .ensures) ∙ c .before .before .before .before .before .if1 .left)), few (c .before .before .before .before .before .before .before .before .args .self) (c .before .before .before .before .before .before .before .before .args .table .now) (is-accepted (c .before .before .before .before .before .before .before .before .args .self) (c .before .before .before .before .before .before .before .before .args .table .now) (sym (c .before .before .before .before .before .before .iterate-refusal .ensures) ∙ c .before .before .before .before .before .if1 .left)))
+steps-requires c κs = let a = accepted (c .before .before .before .before .before) in (ready _ _ a, few _ _ a)
 
 step5-rows-requires : tie.Need-step5-rows-requires
-step5-rows-requires c κs = cast-sized (c .before .before .before .before .before .before .before .before .before .before .before .before .before .before .args .self) (c .before .before .before .before .before .before .before .before .before .before .before .before .before .before .args .table .now) (is-accepted (c .before .before .before .before .before .before .before .before .before .before .before .before .before .before .args .self) (c .before .before .before .before .before .before .before .before .before .before .before .before .before .before .args .table .now) (sym (c .before .before .before .before .before .before .before .before .before .before .before .before .iterate-refusal .ensures) ∙ c .before .before .before .before .before .before .before .before .before .before .before .if1 .left)) (c .before .before .before .before .before .steps .result) (c .before .before .before .before .before .steps .ensures)
+step5-rows-requires c κs = cast-sized _ _ (accepted (c .before .before .before .before .before .before .before .before .before .before .before)) _ (c .before .before .before .before .before .steps .ensures)
 
 step5-lists-requires : tie.Need-step5-lists-requires
-step5-lists-requires c κs = (cast-sized (c .before .before .before .before .before .before .before .before .before .before .before .before .before .before .before .before .before .before .args .self) (c .before .before .before .before .before .before .before .before .before .before .before .before .before .before .before .before .before .before .args .table .now) (is-accepted (c .before .before .before .before .before .before .before .before .before .before .before .before .before .before .before .before .before .before .args .self) (c .before .before .before .before .before .before .before .before .before .before .before .before .before .before .before .before .before .before .args .table .now) (sym (c .before .before .before .before .before .before .before .before .before .before .before .before .before .before .before .before .iterate-refusal .ensures) ∙ c .before .before .before .before .before .before .before .before .before .before .before .before .before .before .before .if1 .left)) (c .before .before .before .before .before .before .before .before .before .steps .result) (c .before .before .before .before .before .before .before .before .before .steps .ensures) .all-confidences, high (c .before .before .before .before .before .before .before .before .before .before .before .before .before .before .before .before .before .before .args .self) (c .before .before .before .before .before .before .before .before .before .before .before .before .before .before .before .before .before .before .args .table .now) (is-accepted (c .before .before .before .before .before .before .before .before .before .before .before .before .before .before .before .before .before .before .args .self) (c .before .before .before .before .before .before .before .before .before .before .before .before .before .before .before .before .before .before .args .table .now) (sym (c .before .before .before .before .before .before .before .before .before .before .before .before .before .before .before .before .iterate-refusal .ensures) ∙ c .before .before .before .before .before .before .before .before .before .before .before .before .before .before .before .if1 .left)))
+step5-lists-requires c κs = let a = accepted (c .before .before .before .before .before .before .before .before .before .before .before .before .before .before .before) in (cast-sized _ _ a _ (c .before .before .before .before .before .before .before .before .before .steps .ensures) .all-confidences, high _ _ a)
 
 add-t21 : tie.Need-add-t21
-add-t21 c = omega (arith, done-small (c .before .before .before .before .before .before .before .before .before .before .before .before .before .before .before .before .before .before .before .before .args .self) (c .before .before .before .before .before .before .before .before .before .before .before .before .before .before .before .before .before .before .before .before .args .table .now) (is-accepted (c .before .before .before .before .before .before .before .before .before .before .before .before .before .before .before .before .before .before .before .before .args .self) (c .before .before .before .before .before .before .before .before .before .before .before .before .before .before .before .before .before .before .before .before .args .table .now) (sym (c .before .before .before .before .before .before .before .before .before .before .before .before .before .before .before .before .before .before .iterate-refusal .ensures) ∙ c .before .before .before .before .before .before .before .before .before .before .before .before .before .before .before .before .before .if1 .left)))
+add-t21 c = omega (arith, done-small (c .before .before .before .before .before .before .before .before .before .before .before .before .before .before .before .before .before .before .before .before .args .self) (c .before .before .before .before .before .before .before .before .before .before .before .before .before .before .before .before .before .before .before .before .args .table .now) (accepted (c .before .before .before .before .before .before .before .before .before .before .before .before .before .before .before .before .before)))
 
 add-t23 : tie.Need-add-t23
-add-t23 c = omega (arith, sent-small (c .before .before .before .before .before .before .before .before .before .before .before .before .before .before .before .before .before .before .before .before .before .args .self) (c .before .before .before .before .before .before .before .before .before .before .before .before .before .before .before .before .before .before .before .before .before .args .table .now) (is-accepted (c .before .before .before .before .before .before .before .before .before .before .before .before .before .before .before .before .before .before .before .before .before .args .self) (c .before .before .before .before .before .before .before .before .before .before .before .before .before .before .before .before .before .before .before .before .before .args .table .now) (sym (c .before .before .before .before .before .before .before .before .before .before .before .before .before .before .before .before .before .before .before .iterate-refusal .ensures) ∙ c .before .before .before .before .before .before .before .before .before .before .before .before .before .before .before .before .before .before .if1 .left)) (c .before .before .before .before .before .before .before .before .before .before .before .before .steps .result) (c .before .before .before .before .before .before .before .before .before .before .before .before .steps .ensures))
+add-t23 c =
+    let w = c .before .before .before .before .before .before .before .before .before .before .before .before .before .before .before .before .before .before .before .before .before .args in
+    omega (arith, sent-small (w .self) (w .table .now) (accepted (c .before .before .before .before .before .before .before .before .before .before .before .before .before .before .before .before .before .before)) (c .before .before .before .before .before .before .before .before .before .before .before .before .steps .result) (c .before .before .before .before .before .before .before .before .before .before .before .before .steps .ensures))
 
 returns-2 : tie.Need-returns-2
 returns-2 c =
-    let a = (is-accepted (c .before .before .before .before .before .before .before .before .before .before .before .before .before .before .before .before .before .before .before .before .before .args .self) (c .before .before .before .before .before .before .before .before .before .before .before .before .before .before .before .before .before .before .before .before .before .args .table .now) (sym (c .before .before .before .before .before .before .before .before .before .before .before .before .before .before .before .before .before .before .before .iterate-refusal .ensures) ∙ c .before .before .before .before .before .before .before .before .before .before .before .before .before .before .before .before .before .before .if1 .left)) in
+    let a = accepted (c .before .before .before .before .before .before .before .before .before .before .before .before .before .before .before .before .before .before) in
+    let cast = c .before .before .before .before .before .before .before .before .before .before .before .before .steps .ensures in
     iterate-taken _ _ _ (sym (c .before .before .before .before .before .before .before .before .before .before .before .before .before .before .before .before .before .before .before .iterate-refusal .ensures) ∙ c .before .before .before .before .before .before .before .before .before .before .before .before .before .before .before .before .before .before .if1 .left)
-    (next-is _ _ a (c .before .before .before .before .before .before .before .before .before .before .before .before .steps .result) (c .before .before .before .before .before .before .before .before .before .before .before .before .steps .ensures) _ _ (c .before .before .before .before .before .before .step5-rows .ensures _ (grades _ _ a (c .before .before .before .before .before .before .before .before .before .before .before .before .steps .result) (c .before .before .before .before .before .before .before .before .before .before .before .before .steps .ensures))) (c .before .before .step5-lists .ensures))
+    (next-is _ _ a _ cast _ _ (c .before .before .before .before .before .before .step5-rows .ensures _ (grades _ _ a _ cast)) (c .before .before .step5-lists .ensures))
 
 pub iterate-spec : {M : Type 1} → statement M
 iterate-spec =
