@@ -6,13 +6,6 @@ ghost use mathlib.Core.Path.{_≡_};
 ghost use Prim.Native.Nat.{_≤_, _<_};
 ghost use lib.ListN.{length};
 
-// Prints one line.
-fn print_line(word: &[u8], numbers: &[u64]) {
-    let mut text = [0u8; 64];
-    let size = listing::write_line(&mut text, word, numbers).size;
-    io::write_all(libc::STDOUT_FILENO, &text[..size]);
-}
-
 // How many bytes of rows follow the first 9 bytes of a heading: none where n is refused.
 fn row_bytes(n: u8) -> usize
     ensures { λ r. ⌜ r ≤ 104 ⌝ }
@@ -74,47 +67,21 @@ fn put_box(run: Run, i: usize, text: &mut [u8], at: usize) -> usize
         return at;
     }
     let numbers = [run.done as u64, (i + 1) as u64, run.rows[i], run.lists[i] as u64];
-    at + listing::write_line(&mut text[at..], b"at", &numbers).size
+    lines::put_line(text, at, b"at", &numbers)
 }
 
-// Puts the lines of all sound boxes and gives their size.
-fn put_boxes(run: Run, text: &mut [u8]) -> usize
+// Prints the lines of all sound boxes in one write: thirteen of at most 35 bytes.
+fn print_boxes(run: Run, text: &mut [u8])
     requires { ⌜ run .n ≤ 13 ⌝ }
-    ensures { λ r. ⌜ r ≤ length (now (text .entry)) ⌝ }
 {
     let n = run.n as usize;
-    let mut at: usize = 0;
+    let mut size: usize = 0;
     let mut i: usize = 0;
     while i < n {
-        at = put_box(run, i, text, at);
+        size = put_box(run, i, text, size);
         i += 1;
     }
-    at
-}
-
-// Prints the lines of all sound boxes: thirteen of at most 35 bytes.
-fn print_boxes(run: Run)
-    requires { ⌜ run .n ≤ 13 ⌝ }
-{
-    let mut text = [0u8; 455];
-    let size = put_boxes(run, &mut text);
     io::write_all(libc::STDOUT_FILENO, &text[..size]);
-}
-
-// All iterations, each printed when it is done. Gives the first refusal, or the last state.
-fn list_iterations(first: Run, bytes: &mut [u8], table: &mut [u64]) -> Next
-    requires { ⌜ (first .n ≤ 13) × (length (now bytes) ≡ 36504) × (length (now table) ≡ 4563) ⌝ }
-{
-    let mut run = first;
-    while run.done <= run.t {
-        let next = take_iteration(run, bytes, table);
-        if next.refusal != 0 {
-            return next;
-        }
-        run = next.run;
-        print_boxes(run);
-    }
-    Next { refusal: end_refusal(), run }
 }
 
 // Refusal 8 where the file goes on past the last table.
@@ -126,23 +93,43 @@ fn end_refusal() -> u8 {
     8
 }
 
-// The last line: the messages, or what was refused.
-fn print_last(last: Next) {
+// All iterations, each printed when it is done. Gives the first refusal, or the last state.
+fn list_iterations(first: Run, bytes: &mut [u8], table: &mut [u64], text: &mut [u8]) -> Next
+    requires { ⌜ (first .n ≤ 13) × (length (now bytes) ≡ 36504) × (length (now table) ≡ 4563) ⌝ }
+{
+    let mut run = first;
+    while run.done <= run.t {
+        let next = take_iteration(run, bytes, table);
+        if next.refusal != 0 {
+            return next;
+        }
+        run = next.run;
+        print_boxes(run, text);
+    }
+    Next {
+        refusal: end_refusal(),
+        run,
+    }
+}
+
+// Prints the last line: the messages, or what was refused.
+fn print_last(last: Next, text: &mut [u8]) {
     if last.refusal != 0 {
-        print_line(b"refused", &[last.refusal as u64]);
+        lines::print_line(text, b"refused", &[last.refusal as u64]);
         return;
     }
-    print_line(b"sent", &[last.run.sent]);
+    lines::print_line(text, b"sent", &[last.run.sent]);
 }
 
 fn main() {
     let mut bytes = [0u8; 36504];
     let mut table = [0u64; 4563];
+    let mut text = [0u8; 455];
     let mut last = take_start(&mut bytes);
     if last.refusal == 0 {
         let run = last.run;
-        print_line(b"run", &[run.n as u64, run.t as u64, run.faulty as u64]);
-        last = list_iterations(run, &mut bytes, &mut table);
+        lines::print_line(&mut text, b"run", &[run.n as u64, run.t as u64, run.faulty as u64]);
+        last = list_iterations(run, &mut bytes, &mut table, &mut text);
     }
-    print_last(last);
+    print_last(last, &mut text);
 }
