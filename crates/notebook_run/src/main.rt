@@ -3,7 +3,7 @@
 use run::Next;
 use run::Run;
 ghost use mathlib.Core.Path.{_≡_};
-ghost use Prim.Native.Nat.{_≤_, _<_};
+ghost use Prim.Native.Nat.{_+_, _≤_, _<_};
 ghost use lib.ListN.{length};
 
 // How many bytes of rows follow the first 9 bytes of a heading: none where n is refused.
@@ -19,17 +19,16 @@ fn row_bytes(n: u8) -> usize
 // Reads the heading in two pieces, since it names its own length, and gives how many bytes came.
 fn take_heading(bytes: &mut [u8]) -> usize
     requires { ⌜ length (now bytes) ≡ 36504 ⌝ }
-    ensures { λ r. ⌜ r ≤ length (now (bytes .exit)) ⌝ }
+    ensures { λ r. ⌜ r ≤ 113 ⌝ }
 {
-    let got = io::read_full(libc::STDIN_FILENO, &mut bytes[..9]);
-    if got < 9 {
-        return got;
+    let size = inout::fill(bytes, 0, 9);
+    if size < 9 {
+        return size;
     }
-    let end = 9 + row_bytes(bytes[5]);
-    9 + io::read_full(libc::STDIN_FILENO, &mut bytes[9..end])
+    inout::fill(bytes, 9, 9 + row_bytes(bytes[5]))
 }
 
-// Reads the heading and starts the run.
+// Reads the heading and starts the run. A refused heading says nothing but its number, which is the reply then.
 fn take_start(bytes: &mut [u8]) -> Next
     requires { ⌜ length (now bytes) ≡ 36504 ⌝ }
     ensures { λ r. ⌜ r .run .n ≤ 13 ⌝ }
@@ -48,9 +47,10 @@ fn take_start(bytes: &mut [u8]) -> Next
 // Reads one table and carries the run forward by it.
 fn take_iteration(run: Run, bytes: &mut [u8], table: &mut [u64]) -> Next
     requires { ⌜ (run .n ≤ 13) × (length (now bytes) ≡ 36504) × (length (now table) ≡ 4563) ⌝ }
+    ensures { λ r. ⌜ (r .refusal ≡ 0 → (r .run .n ≡ run .n) × (r .run .t ≡ run .t) × (r .run .done ≡ run .done + 1)) ⌝ }
 {
     let rows = sizes::table_rows(run.n);
-    let size = io::read_full(libc::STDIN_FILENO, &mut bytes[..8 * rows]);
+    let size = inout::fill(bytes, 0, 8 * rows);
     let refusal = runfile::read_table(run.n, &bytes[..size], table);
     if refusal != 0 {
         return Next { refusal, run };
@@ -67,7 +67,7 @@ fn put_box(run: Run, i: usize, text: &mut [u8], at: usize) -> usize
         return at;
     }
     let numbers = [run.done as u64, (i + 1) as u64, run.rows[i], run.lists[i] as u64];
-    lines::put_line(text, at, b"at", &numbers)
+    inout::put_line(text, at, b"at", &numbers)
 }
 
 // Prints the lines of all sound boxes in one write: thirteen of at most 35 bytes.
@@ -115,10 +115,10 @@ fn list_iterations(first: Run, bytes: &mut [u8], table: &mut [u64], text: &mut [
 // Prints the last line: the messages, or what was refused.
 fn print_last(last: Next, text: &mut [u8]) {
     if last.refusal != 0 {
-        lines::print_line(text, b"refused", &[last.refusal as u64]);
+        inout::print_line(text, b"refused", &[last.refusal as u64]);
         return;
     }
-    lines::print_line(text, b"sent", &[last.run.sent]);
+    inout::print_line(text, b"sent", &[last.run.sent]);
 }
 
 fn main() {
@@ -128,7 +128,7 @@ fn main() {
     let mut last = take_start(&mut bytes);
     if last.refusal == 0 {
         let run = last.run;
-        lines::print_line(&mut text, b"run", &[run.n as u64, run.t as u64, run.faulty as u64]);
+        inout::print_line(&mut text, b"run", &[run.n as u64, run.t as u64, run.faulty as u64]);
         last = list_iterations(run, &mut bytes, &mut table, &mut text);
     }
     print_last(last, &mut text);

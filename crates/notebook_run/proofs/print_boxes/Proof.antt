@@ -1,3 +1,8 @@
+use mathlib.Core.Path.{sym}
+use lib.Seq.{length-take-le}
+use Prim.Native.Nat.{_≤_, _-_}
+use mathlib.Core.Path.{_≡_}
+use lib.ListN.{length}
 use borrow.Author.Needs.{needs}
 use Rattle.notebook_run.proofs.print_boxes.Statement.{statement}
 use Rattle.notebook_run.proofs.print_boxes.Tie as tie
@@ -7,10 +12,10 @@ use Rattle.io.proofs.write_all.Reads as write-all-reads
 use Rattle.notebook_run.proofs.put_box.Reads as put-box-reads
 
 abbrev Inv-loop : tie.InvT-loop
-Inv-loop run text₀ n size₀ i₀ text size i = ?
+Inv-loop run text₀ n size₀ i₀ text size i = (size ≤ length text₀) × (length text ≡ length text₀)
 
 abbrev μ-loop : tie.MeasureT-loop
-μ-loop run text₀ n size₀ i₀ text size i = ?
+μ-loop run text₀ n size₀ i₀ text size i = n - i
 
 -- src/main.rt:77:13
 cast-n : tie.Need-cast-n Inv-loop μ-loop
@@ -42,7 +47,7 @@ slice-reshare-prefix-write-all c = search needs
 
 -- src/main.rt:84:40
 slice-aggregate-write-all : tie.Need-slice-aggregate-write-all Inv-loop μ-loop
-slice-aggregate-write-all c = search needs
+slice-aggregate-write-all c = sym (length-take-le _ _ ?)
 
 -- src/main.rt:84:5
 write-all-requires : tie.Need-write-all-requires Inv-loop μ-loop

@@ -3,7 +3,7 @@ use Rattle.notebook_run.proofs.take_iteration.Statement.{statement}
 use Rattle.notebook_run.proofs.take_iteration.Tie as tie
 use Rattle.notebook_run.proofs.take_iteration.Reads as reads
 use Rattle.notebook_run.proofs.take_iteration.Lts as lts
-use Rattle.io.proofs.read_full.Reads as read-full-reads
+use Rattle.inout.proofs.fill.Reads as fill-reads
 use Rattle.run.proofs.Run.iterate.Reads as iterate-reads
 use Rattle.runfile.proofs.read_table.Reads as read-table-reads
 use Rattle.sizes.proofs.table_rows.Reads as table-rows-reads
@@ -12,21 +12,13 @@ use Rattle.sizes.proofs.table_rows.Reads as table-rows-reads
 table-rows-requires : tie.Need-table-rows-requires
 table-rows-requires c κs = search needs
 
--- src/main.rt:53:63
-mul-read-full : tie.Need-mul-read-full
-mul-read-full c = search needs
-
--- src/main.rt:53:50
-slice-relend-prefix-read-full : tie.Need-slice-relend-prefix-read-full
-slice-relend-prefix-read-full c = search needs
-
--- src/main.rt:53:50
-slice-aggregate-read-full : tie.Need-slice-aggregate-read-full
-slice-aggregate-read-full c = search needs
+-- src/main.rt:53:38
+mul-fill : tie.Need-mul-fill
+mul-fill c = search needs
 
 -- src/main.rt:53:9
-read-full-requires : tie.Need-read-full-requires
-read-full-requires c κs = search needs
+fill-requires : tie.Need-fill-requires
+fill-requires c κs = search needs
 
 -- src/main.rt:54:46
 slice-reshare-prefix-read-table : tie.Need-slice-reshare-prefix-read-table
@@ -64,15 +56,15 @@ slice-aggregate-iterate c = search needs
 iterate-requires : tie.Need-iterate-requires
 iterate-requires c κs = search needs
 
--- src/main.rt:49:1
+-- src/main.rt:48:1
 same-length-3 : tie.Need-same-length-3
 same-length-3 c = search needs
 
--- src/main.rt:49:1
+-- src/main.rt:48:1
 same-length-4 : tie.Need-same-length-4
 same-length-4 c = search needs
 
--- src/main.rt:49:1
+-- src/main.rt:48:1
 returns-2 : tie.Need-returns-2
 returns-2 c = search needs
 
@@ -81,10 +73,8 @@ take-iteration-spec =
     tie.close
     (tie.spec
     table-rows-requires
-    mul-read-full
-    slice-relend-prefix-read-full
-    slice-aggregate-read-full
-    read-full-requires
+    mul-fill
+    fill-requires
     slice-reshare-prefix-read-table
     slice-aggregate-read-table
     read-table-requires

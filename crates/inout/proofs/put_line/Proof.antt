@@ -1,4 +1,4 @@
--- `lines::put_line` meets its contract: the line is written at the front of what lies from the place on, and its size lies within that.
+-- `inout::put_line` meets its contract: the line is written at the front of what lies from the place on, and its size lies within that.
 -- Assumes nothing.
 use Prim.Native.Nat.{ℕ, _+_, _-_, _≤_}
 use mathlib.Core.Path.{_≡_, sym, ap, _∙_, subst}
@@ -7,10 +7,10 @@ use native.Mathlib.Omega.{arith}
 use lib.ListN.{length, take, drop, length-drop}
 use Rattle.listing.specs.declared.Written.{Written}
 use Rattle.listing.specs.Line.{lineReply, lineWrites}
-use Rattle.lines.proofs.Laws.{line-fits, rest-whole, rest-none}
+use Rattle.inout.proofs.Laws.{line-fits, rest-whole, rest-none}
 use borrow.Author.Needs.{needs}
-use Rattle.lines.proofs.put_line.Statement.{statement}
-use Rattle.lines.proofs.put_line.Tie as tie
+use Rattle.inout.proofs.put_line.Statement.{statement}
+use Rattle.inout.proofs.put_line.Tie as tie
 
 abbrev text-of : tie.After-write-line → List ℕ
 text-of c = c .before .before .before .before .before .args .text .now

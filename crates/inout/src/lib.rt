@@ -1,9 +1,20 @@
-// What both programs print: lines of text, put together in a lent slice.
+// What both programs share: standard input read in pieces, and lines of text put together in a lent slice.
 ghost use mathlib.Core.Path.{_≡_};
 ghost use mathlib.Core.List.{_++_};
 ghost use Prim.Native.Nat.{_+_, _-_, _≤_};
 ghost use lib.ListN.{length, take, drop};
 ghost use Rattle.listing.specs.Line.{lineReply, lineWrites};
+
+// Reads until the part of the bytes from a place to an end is full or the input ends, and gives the place behind the last byte
+// that came. What lies before and behind the part stays.
+pub fn fill(bytes: &mut [u8], at: usize, end: usize) -> usize
+    requires { ⌜ (at ≤ end) × (end ≤ length (now bytes)) ⌝ }
+    ensures { λ r. ⌜ (at ≤ r) × (r ≤ end) ⌝ }
+    ensures { λ r. ⌜ take at (now (bytes .exit)) ≡ take at (now (bytes .entry)) ⌝ }
+    ensures { λ r. ⌜ drop end (now (bytes .exit)) ≡ drop end (now (bytes .entry)) ⌝ }
+{
+    at + io::read_full(libc::STDIN_FILENO, &mut bytes[at..end])
+}
 
 // Puts a line at a place of the text and gives the place behind it. A line that does not fit is left out.
 pub fn put_line(text: &mut [u8], at: usize, word: &[u8], numbers: &[u64]) -> usize

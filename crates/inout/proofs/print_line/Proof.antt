@@ -1,4 +1,4 @@
--- `lines::print_line` meets its contract: the size that was written lies within the text, and printing leaves the text as it is.
+-- `inout::print_line` meets its contract: the size that was written lies within the text, and printing leaves the text as it is.
 -- Assumes nothing.
 use Prim.Native.Nat.{_≤_}
 use mathlib.Core.Path.{sym, ap}
@@ -6,10 +6,10 @@ use native.Mathlib.Omega.{arith}
 use lib.ListN.{length}
 use lib.Seq.{length-take-le}
 use Rattle.listing.specs.declared.Written.{Written}
-use Rattle.lines.proofs.Laws.{line-fits}
+use Rattle.inout.proofs.Laws.{line-fits}
 use borrow.Author.Needs.{needs}
-use Rattle.lines.proofs.print_line.Statement.{statement}
-use Rattle.lines.proofs.print_line.Tie as tie
+use Rattle.inout.proofs.print_line.Statement.{statement}
+use Rattle.inout.proofs.print_line.Tie as tie
 
 fits : (c : tie.After-write-line) → c .write-line .result .size ≤ length (c .write-line .last .0)
 fits c =
