@@ -3,17 +3,17 @@
 use Prim.Native.Nat.{ℕ, _+_, _≤_}
 use native.Mathlib.Omega.{arith}
 use mathlib.Core.Bool.{Bool, true, false}
-use mathlib.Core.Path.{_≡_, refl}
+use mathlib.Core.Path.{_≡_, refl, sym, subst}
 use mathlib.Core.List.{List}
 use lib.Dec.{eqb}
 use lib.ListN.{length}
-use borrow.Author.Tests.{eqb-true}
-use Rattle.counting.proofs.Bools.{eq-eqb}
+use borrow.Author.Tests.{eqb-true, eq-eqb}
 use Rattle.sizes.specs.Sizes.{outside, tableRows, byN}
 use Rattle.sizes.proofs.Laws.{inside-high}
 use Rattle.runfile.specs.Reply.{headingRefusal, headingReply, headingOf, nothingRead}
 use Rattle.runfile.proofs.Laws.{table-rows-most, heading-accepted}
 use Rattle.run.specs.declared.Run.{Run}
+use Rattle.run.specs.declared.Next.{Next}
 use Rattle.run.specs.Iteration.{nextRun}
 use Rattle.run.specs.State.{startRefusal, startReply, startRun, zeros, iterateRefusal, iterateReply}
 
@@ -38,7 +38,13 @@ start-n n t faulty rows = go (eqb (startRefusal n t faulty rows) 0) refl where
     go true e = rw e (omega arith)
     go false e = rw e (omega arith)
 
-pub iterate-next : (s : Run) (table : List ℕ) → iterateReply s table .refusal ≡ 0 →
+iterate-next : (s : Run) (table : List ℕ) → iterateRefusal s table ≡ 0 →
     (iterateReply s table .run .n ≡ s .n) × (iterateReply s table .run .t ≡ s .t) × (iterateReply s table .run .done ≡ s .done + 1)
 unfolding iterateReply nextRun
 iterate-next s table e = rw (eq-eqb (iterateRefusal s table) 0 e) (refl, refl, refl)
+
+pub carried : (s : Run) (table : List ℕ) (r : Next) → r ≡ iterateReply s table → r .refusal ≡ 0 →
+    (r .run .n ≡ s .n) × (r .run .t ≡ s .t) × (r .run .done ≡ s .done + 1)
+unfolding iterateReply
+carried s table r e =
+    subst (λ (q : Next). q .refusal ≡ 0 → (q .run .n ≡ s .n) × (q .run .t ≡ s .t) × (q .run .done ≡ s .done + 1)) (sym e) (iterate-next s table)

@@ -25,7 +25,8 @@ fn take_heading(bytes: &mut [u8]) -> usize
     if size < 9 {
         return size;
     }
-    inout::fill(bytes, 9, 9 + row_bytes(bytes[5]))
+    let n = bytes[5];
+    inout::fill(bytes, 9, 9 + row_bytes(n))
 }
 
 // Reads the heading and starts the run. A refused heading says nothing but its number, which is the reply then.
@@ -113,7 +114,7 @@ fn list_iterations(first: Run, bytes: &mut [u8], table: &mut [u64], text: &mut [
 }
 
 // Prints the last line: the messages, or what was refused.
-fn print_last(last: Next, text: &mut [u8]) {
+fn print_last(last: Next, text: &mut [u8; 455]) {
     if last.refusal != 0 {
         inout::print_line(text, b"refused", &[last.refusal as u64]);
         return;

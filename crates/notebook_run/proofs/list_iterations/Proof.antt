@@ -1,71 +1,64 @@
+-- `notebook_run::list_iterations` is safe and ends. The slices keep their lengths and n its bound. The measure is the number of iterations left:
+-- each that is not refused is one more done, and t stays. Assumes nothing.
+use Prim.Native.Nat.{_+_, _-_, _≤_}
+use mathlib.Core.Path.{_≡_}
+use native.Mathlib.Omega.{arith}
+use lib.ListN.{length}
 use borrow.Author.Needs.{needs}
 use Rattle.notebook_run.proofs.list_iterations.Statement.{statement}
 use Rattle.notebook_run.proofs.list_iterations.Tie as tie
-use Rattle.notebook_run.proofs.list_iterations.Reads as reads
-use Rattle.notebook_run.proofs.list_iterations.Lts as lts
-use Rattle.notebook_run.proofs.end_refusal.Reads as end-refusal-reads
-use Rattle.notebook_run.proofs.print_boxes.Reads as print-boxes-reads
-use Rattle.notebook_run.proofs.take_iteration.Reads as take-iteration-reads
 
 abbrev Inv-loop : tie.InvT-loop
-Inv-loop bytes₀ table₀ text₀ run₀ bytes table text run = ?
+Inv-loop bytes₀ table₀ text₀ run₀ bytes table text run = (run .n ≤ 13) × (length bytes ≡ length bytes₀) × (length table ≡ length table₀) × (length text ≡ length text₀)
 
 abbrev μ-loop : tie.MeasureT-loop
-μ-loop bytes₀ table₀ text₀ run₀ bytes table text run = ?
+μ-loop bytes₀ table₀ text₀ run₀ bytes table text run = run .t + 1 - run .done
 
--- src/main.rt:102:5
+next : (c : tie.Else2 Inv-loop μ-loop) →
+    (c .before .before .before .before .before .before .take-iteration .result .run .n ≡ c .before .before .before .before .before .before .before .before .before .before .before .loop .run .n)
+    × (c .before .before .before .before .before .before .take-iteration .result .run .t ≡ c .before .before .before .before .before .before .before .before .before .before .before .loop .run .t)
+    × (c .before .before .before .before .before .before .take-iteration .result .run .done ≡ c .before .before .before .before .before .before .before .before .before .before .before .loop .run .done + 1)
+next c = c .before .before .before .before .before .before .take-iteration .ensures (c .if2 .left)
+
 loop-holds : tie.Need-loop-holds Inv-loop μ-loop
 loop-holds c = search needs
 
--- src/main.rt:103:13
 take-iteration-requires : tie.Need-take-iteration-requires Inv-loop μ-loop
 take-iteration-requires c κs = search needs
 
--- src/main.rt:105:13
 same-length : tie.Need-same-length Inv-loop μ-loop
 same-length c = search needs
 
--- src/main.rt:105:13
 same-length-2 : tie.Need-same-length-2 Inv-loop μ-loop
 same-length-2 c = search needs
 
--- src/main.rt:105:13
 same-length-3 : tie.Need-same-length-3 Inv-loop μ-loop
 same-length-3 c = search needs
 
--- src/main.rt:105:13
 returns : tie.Need-returns Inv-loop μ-loop
 returns c = search needs
 
--- src/main.rt:108:9
 print-boxes-requires : tie.Need-print-boxes-requires Inv-loop μ-loop
-print-boxes-requires c κs = search needs
+print-boxes-requires c κs = omega (arith, next (c .before .before))
 
--- src/main.rt:102:5
 loop-less : tie.Need-loop-less Inv-loop μ-loop
-loop-less c = search needs
+loop-less c = omega (arith, next (c .before .before .before .before .before))
 
--- src/main.rt:102:5
 loop-again : tie.Need-loop-again Inv-loop μ-loop
-loop-again c = search needs
+loop-again c = omega (arith, next (c .before .before .before .before .before))
 
--- src/main.rt:111:18
 end-refusal-requires : tie.Need-end-refusal-requires Inv-loop μ-loop
 end-refusal-requires c κs = search needs
 
--- src/main.rt:98:1
 same-length-4 : tie.Need-same-length-4 Inv-loop μ-loop
 same-length-4 c = search needs
 
--- src/main.rt:98:1
 same-length-5 : tie.Need-same-length-5 Inv-loop μ-loop
 same-length-5 c = search needs
 
--- src/main.rt:98:1
 same-length-6 : tie.Need-same-length-6 Inv-loop μ-loop
 same-length-6 c = search needs
 
--- src/main.rt:98:1
 returns-2 : tie.Need-returns-2 Inv-loop μ-loop
 returns-2 c = search needs
 
