@@ -14,9 +14,9 @@ use Rattle.listing.specs.Line.{lineOf, tooShort, lineReply}
 pub line-fits : (word numbers : List ℕ) (room : ℕ) → lineReply word numbers room .size ≤ room
 unfolding lineReply tooShort
 line-fits word numbers room = go (ltb room (length (lineOf word numbers))) refl where
-    go : (b : Bool) → ltb room (length (lineOf word numbers)) ≡ b → lineReply word numbers room .size ≤ room
-    go true e = rw e (omega arith)
-    go false e = rw e (ltb-false _ _ e)
+  go : (b : Bool) → ltb room (length (lineOf word numbers)) ≡ b → lineReply word numbers room .size ≤ room
+  go true e = rw e (omega arith)
+  go false e = rw e (ltb-false _ _ e)
 
 pub rest-whole : (xs : List ℕ) (at : ℕ) → take (length xs - at) (drop at xs) ≡ drop at xs
 rest-whole xs at = take-all (length xs - at) (drop at xs) (omega (arith, length-drop at xs))

@@ -20,23 +20,23 @@ use Rattle.run.specs.State.{startRefusal, startReply, startRun, zeros, iterateR
 pub rows-most : (n : ℕ) → byN tableRows n ≤ 4563
 unfolding byN
 rows-most n = go (outside n) refl where
-    go : (b : Bool) → outside n ≡ b → byN tableRows n ≤ 4563
-    go true e = rw e (omega arith)
-    go false e = rw e (table-rows-most n e)
+  go : (b : Bool) → outside n ≡ b → byN tableRows n ≤ 4563
+  go true e = rw e (omega arith)
+  go false e = rw e (table-rows-most n e)
 
 pub heading-n : (bytes : List ℕ) (room : ℕ) → headingReply bytes room .n ≤ 13
 unfolding headingReply headingOf nothingRead
 heading-n bytes room = go (eqb (headingRefusal bytes room) 0) refl where
-    go : (b : Bool) → eqb (headingRefusal bytes room) 0 ≡ b → headingReply bytes room .n ≤ 13
-    go true e = rw e (inside-high _ (heading-accepted bytes room (eqb-true _ _ e) .inside))
-    go false e = rw e (omega arith)
+  go : (b : Bool) → eqb (headingRefusal bytes room) 0 ≡ b → headingReply bytes room .n ≤ 13
+  go true e = rw e (inside-high _ (heading-accepted bytes room (eqb-true _ _ e) .inside))
+  go false e = rw e (omega arith)
 
 pub start-n : (n t faulty : ℕ) (rows : List ℕ) → startReply n t faulty rows .run .n ≤ n
 unfolding startReply startRun zeros
 start-n n t faulty rows = go (eqb (startRefusal n t faulty rows) 0) refl where
-    go : (b : Bool) → eqb (startRefusal n t faulty rows) 0 ≡ b → startReply n t faulty rows .run .n ≤ n
-    go true e = rw e (omega arith)
-    go false e = rw e (omega arith)
+  go : (b : Bool) → eqb (startRefusal n t faulty rows) 0 ≡ b → startReply n t faulty rows .run .n ≤ n
+  go true e = rw e (omega arith)
+  go false e = rw e (omega arith)
 
 iterate-next : (s : Run) (table : List ℕ) → iterateRefusal s table ≡ 0 →
     (iterateReply s table .run .n ≡ s .n) × (iterateReply s table .run .t ≡ s .t) × (iterateReply s table .run .done ≡ s .done + 1)

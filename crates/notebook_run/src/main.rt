@@ -67,7 +67,12 @@ fn put_box(run: Run, i: usize, text: &mut [u8], at: usize) -> usize
     if gradecast::is_member(run.faulty, i) {
         return at;
     }
-    let numbers = [run.done as u64, (i + 1) as u64, run.rows[i], run.lists[i] as u64];
+    let numbers = [
+        run.done as u64,
+        (i + 1) as u64,
+        run.rows[i],
+        run.lists[i] as u64,
+    ];
     inout::put_line(text, at, b"at", &numbers)
 }
 
@@ -129,7 +134,11 @@ fn main() {
     let mut last = take_start(&mut bytes);
     if last.refusal == 0 {
         let run = last.run;
-        inout::print_line(&mut text, b"run", &[run.n as u64, run.t as u64, run.faulty as u64]);
+        inout::print_line(
+            &mut text,
+            b"run",
+            &[run.n as u64, run.t as u64, run.faulty as u64],
+        );
         last = list_iterations(run, &mut bytes, &mut table, &mut text);
     }
     print_last(last, &mut text);

@@ -13,6 +13,18 @@ fn wide(byte: u8) -> u64
     byte as u64
 }
 
+// A list or a set of boxes as a number of 64 bits.
+fn wide2(set: u16) -> u64 {
+    set as u64
+}
+
+// A byte as a length.
+fn small(byte: u8) -> usize
+    ensures { λ r. ⌜ r < 256 ⌝ }
+{
+    byte as usize
+}
+
 // The number in the 2 bytes from a place on.
 fn number2(bytes: &[u8], at: usize) -> u64
     requires { ⌜ at + 2 ≤ length (now bytes) ⌝ }
@@ -123,13 +135,13 @@ fn print_state(text: &mut [u8], word: &[u8], next: Next) {
     numbers[0] = wide(next.refusal);
     numbers[1] = wide(run.n);
     numbers[2] = wide(run.t);
-    numbers[3] = run.faulty as u64;
+    numbers[3] = wide2(run.faulty);
     numbers[4] = wide(run.done);
     numbers[5] = run.sent;
     let mut i: usize = 0;
     while i < 13 {
         numbers[6 + i] = run.rows[i];
-        numbers[19 + i] = run.lists[i] as u64;
+        numbers[19 + i] = wide2(run.lists[i]);
         i += 1;
     }
     inout::print_line(text, word, &numbers);
@@ -142,7 +154,7 @@ fn answer_vote(bytes: &mut [u8], rows: &mut [u64], text: &mut [u8]) -> bool
     if !take(bytes, 2) {
         return false;
     }
-    let count = bytes[0] as usize;
+    let count = small(bytes[0]);
     let t = bytes[1];
     if !take_rows(bytes, count, rows) {
         return false;
@@ -159,13 +171,17 @@ fn answer_grade(bytes: &mut [u8], rows: &mut [u64], text: &mut [u8]) -> bool
     if !take(bytes, 2) {
         return false;
     }
-    let count = bytes[0] as usize;
+    let count = small(bytes[0]);
     let t = bytes[1];
     if !take_rows(bytes, count, rows) {
         return false;
     }
     let graded = tally::grade(&rows[..count], t);
-    inout::print_line(text, b"grade", &[graded.refusal as u64, graded.row, graded.confidence as u64]);
+    inout::print_line(
+        text,
+        b"grade",
+        &[graded.refusal as u64, graded.row, graded.confidence as u64],
+    );
     true
 }
 
@@ -176,8 +192,8 @@ fn answer_choice(bytes: &mut [u8], rows: &mut [u64], text: &mut [u8]) -> bool
     if !take(bytes, 2) {
         return false;
     }
-    let count = bytes[0] as usize;
-    let size = bytes[1] as usize;
+    let count = small(bytes[0]);
+    let size = small(bytes[1]);
     if !take_rows(bytes, count, rows) {
         return false;
     }
@@ -185,7 +201,11 @@ fn answer_choice(bytes: &mut [u8], rows: &mut [u64], text: &mut [u8]) -> bool
         return false;
     }
     let chosen = tally::choose(&rows[..count], &bytes[..size]);
-    inout::print_line(text, b"choice", &[chosen.refusal as u64, chosen.row, chosen.firm as u64]);
+    inout::print_line(
+        text,
+        b"choice",
+        &[chosen.refusal as u64, chosen.row, chosen.firm as u64],
+    );
     true
 }
 
@@ -199,7 +219,7 @@ fn answer_start(bytes: &mut [u8], rows: &mut [u64], text: &mut [u8]) -> bool
     let n = bytes[0];
     let t = bytes[1];
     let faulty = number2(bytes, 2) as u16;
-    let count = bytes[4] as usize;
+    let count = small(bytes[4]);
     if !take_rows(bytes, count, rows) {
         return false;
     }
@@ -226,30 +246,71 @@ fn answer_iteration(bytes: &mut [u8], rows: &mut [u64], text: &mut [u8]) -> bool
     true
 }
 
-// The heading reader, with the lent slice behind the five numbers of its reply.
+// The heading reader over a lent slice that holds 1, 2, 3 and so on.
+fn lend_heading(bytes: &[u8], lent: &mut [u64]) -> runfile::Heading {
+    count_up(lent);
+    runfile::read_heading(bytes, lent)
+}
+
+// Puts the heading reader's reply at the front of the numbers.
+fn put_heading(numbers: &mut [u64], heading: runfile::Heading)
+    requires { ⌜ 5 ≤ length (now numbers) ⌝ }
+{
+    let reply = [
+        wide(heading.refusal),
+        wide2(heading.version),
+        wide(heading.n),
+        wide(heading.t),
+        wide2(heading.faulty),
+    ];
+    let mut k: usize = 0;
+    while k < 5 {
+        numbers[k] = reply[k];
+        k += 1;
+    }
+}
+
+// Prints the heading reader's reply, with the lent slice behind its five numbers.
+fn print_heading(bytes: &[u8], numbers: &mut [u64], text: &mut [u8])
+    requires { ⌜ 5 ≤ length (now numbers) ⌝ }
+{
+    let heading = lend_heading(bytes, &mut numbers[5..]);
+    put_heading(numbers, heading);
+    inout::print_line(text, b"heading", numbers);
+}
+
+// The heading reader.
 fn answer_heading(bytes: &mut [u8], numbers: &mut [u64], text: &mut [u8]) -> bool
     requires { ⌜ (length (now bytes) ≡ 65536) × (length (now numbers) ≡ 5001) ⌝ }
 {
     if !take(bytes, 2) {
         return false;
     }
-    let size = bytes[0] as usize;
-    let end = 5 + (bytes[1] as usize);
+    let size = small(bytes[0]);
+    let end = 5 + small(bytes[1]);
     if !take(bytes, size) {
         return false;
     }
-    count_up(&mut numbers[5..end]);
-    let heading = runfile::read_heading(&bytes[..size], &mut numbers[5..end]);
-    numbers[0] = wide(heading.refusal);
-    numbers[1] = heading.version as u64;
-    numbers[2] = wide(heading.n);
-    numbers[3] = wide(heading.t);
-    numbers[4] = heading.faulty as u64;
-    inout::print_line(text, b"heading", &numbers[..end]);
+    print_heading(&bytes[..size], &mut numbers[..end], text);
     true
 }
 
-// The table reader, with the lent slice behind the number of its reply.
+// The table reader over a lent slice that holds 1, 2, 3 and so on.
+fn lend_table(n: u8, bytes: &[u8], lent: &mut [u64]) -> u8 {
+    count_up(lent);
+    runfile::read_table(n, bytes, lent)
+}
+
+// Prints the table reader's reply, with the lent slice behind its number.
+fn print_table(n: u8, bytes: &[u8], numbers: &mut [u64], text: &mut [u8])
+    requires { ⌜ 1 ≤ length (now numbers) ⌝ }
+{
+    let refusal = lend_table(n, bytes, &mut numbers[1..]);
+    numbers[0] = wide(refusal);
+    inout::print_line(text, b"table", numbers);
+}
+
+// The table reader.
 fn answer_table(bytes: &mut [u8], numbers: &mut [u64], text: &mut [u8]) -> bool
     requires { ⌜ (length (now bytes) ≡ 65536) × (length (now numbers) ≡ 5001) ⌝ }
 {
@@ -265,11 +326,7 @@ fn answer_table(bytes: &mut [u8], numbers: &mut [u64], text: &mut [u8]) -> bool
     if !take(bytes, size) {
         return false;
     }
-    let end = 1 + room;
-    count_up(&mut numbers[1..end]);
-    let refusal = runfile::read_table(n, &bytes[..size], &mut numbers[1..end]);
-    numbers[0] = wide(refusal);
-    inout::print_line(text, b"table", &numbers[..end]);
+    print_table(n, &bytes[..size], &mut numbers[..1 + room], text);
     true
 }
 

@@ -1,134 +1,104 @@
+-- `replies::print_state` is safe and ends: there are 32 numbers throughout. The measure is the number of boxes left. Assumes nothing.
+use Prim.Native.Nat.{_-_}
+use mathlib.Core.Path.{_≡_}
+use lib.ListN.{length}
 use borrow.Author.Needs.{needs}
 use Rattle.replies.proofs.print_state.Statement.{statement}
 use Rattle.replies.proofs.print_state.Tie as tie
-use Rattle.replies.proofs.print_state.Reads as reads
-use Rattle.replies.proofs.print_state.Lts as lts
-use Rattle.inout.proofs.print_line.Reads as print-line-reads
-use Rattle.replies.proofs.wide.Reads as wide-reads
 
 abbrev Inv-loop : tie.InvT-loop
-Inv-loop text word run numbers₀ i₀ numbers i = ?
+Inv-loop text word run numbers₀ i₀ numbers i = length numbers ≡ 32
 
 abbrev μ-loop : tie.MeasureT-loop
-μ-loop text word run numbers₀ i₀ numbers i = ?
+μ-loop text word run numbers₀ i₀ numbers i = 13 - i
 
--- src/main.rt:123:18
 wide-requires : tie.Need-wide-requires Inv-loop μ-loop
 wide-requires c κs = search needs
 
--- src/main.rt:123:5
 array-write-numbers : tie.Need-array-write-numbers Inv-loop μ-loop
 array-write-numbers c = search needs
 
--- src/main.rt:124:18
 wide-requires-2 : tie.Need-wide-requires-2 Inv-loop μ-loop
 wide-requires-2 c κs = search needs
 
--- src/main.rt:124:5
 array-write-numbers-2 : tie.Need-array-write-numbers-2 Inv-loop μ-loop
 array-write-numbers-2 c = search needs
 
--- src/main.rt:125:18
 wide-requires-3 : tie.Need-wide-requires-3 Inv-loop μ-loop
 wide-requires-3 c κs = search needs
 
--- src/main.rt:125:5
 array-write-numbers-3 : tie.Need-array-write-numbers-3 Inv-loop μ-loop
 array-write-numbers-3 c = search needs
 
--- src/main.rt:126:18
-cast-numbers : tie.Need-cast-numbers Inv-loop μ-loop
-cast-numbers c = search needs
+wide2-requires : tie.Need-wide2-requires Inv-loop μ-loop
+wide2-requires c κs = search needs
 
--- src/main.rt:126:5
 array-write-numbers-4 : tie.Need-array-write-numbers-4 Inv-loop μ-loop
 array-write-numbers-4 c = search needs
 
--- src/main.rt:127:18
 wide-requires-4 : tie.Need-wide-requires-4 Inv-loop μ-loop
 wide-requires-4 c κs = search needs
 
--- src/main.rt:127:5
 array-write-numbers-5 : tie.Need-array-write-numbers-5 Inv-loop μ-loop
 array-write-numbers-5 c = search needs
 
--- src/main.rt:128:5
 array-write-numbers-6 : tie.Need-array-write-numbers-6 Inv-loop μ-loop
 array-write-numbers-6 c = search needs
 
--- src/main.rt:130:5
 loop-holds : tie.Need-loop-holds Inv-loop μ-loop
 loop-holds c = search needs
 
--- src/main.rt:131:26
 mul-numbers : tie.Need-mul-numbers Inv-loop μ-loop
 mul-numbers c = search needs
 
--- src/main.rt:131:26
 element-copy-out-numbers : tie.Need-element-copy-out-numbers Inv-loop μ-loop
 element-copy-out-numbers c = search needs
 
--- src/main.rt:131:17
 add-numbers : tie.Need-add-numbers Inv-loop μ-loop
 add-numbers c = search needs
 
--- src/main.rt:131:9
 mul-numbers-2 : tie.Need-mul-numbers-2 Inv-loop μ-loop
 mul-numbers-2 c = search needs
 
--- src/main.rt:131:9
 array-write-numbers-7 : tie.Need-array-write-numbers-7 Inv-loop μ-loop
 array-write-numbers-7 c = search needs
 
--- src/main.rt:132:27
-mul-numbers-3 : tie.Need-mul-numbers-3 Inv-loop μ-loop
-mul-numbers-3 c = search needs
+mul-wide2 : tie.Need-mul-wide2 Inv-loop μ-loop
+mul-wide2 c = search needs
 
--- src/main.rt:132:27
-element-copy-out-numbers-2 : tie.Need-element-copy-out-numbers-2 Inv-loop μ-loop
-element-copy-out-numbers-2 c = search needs
+element-copy-out-wide2 : tie.Need-element-copy-out-wide2 Inv-loop μ-loop
+element-copy-out-wide2 c = search needs
 
--- src/main.rt:132:27
-cast-numbers-2 : tie.Need-cast-numbers-2 Inv-loop μ-loop
-cast-numbers-2 c = search needs
+wide2-requires-2 : tie.Need-wide2-requires-2 Inv-loop μ-loop
+wide2-requires-2 c κs = search needs
 
--- src/main.rt:132:17
 add-numbers-2 : tie.Need-add-numbers-2 Inv-loop μ-loop
 add-numbers-2 c = search needs
 
--- src/main.rt:132:9
-mul-numbers-4 : tie.Need-mul-numbers-4 Inv-loop μ-loop
-mul-numbers-4 c = search needs
+mul-numbers-3 : tie.Need-mul-numbers-3 Inv-loop μ-loop
+mul-numbers-3 c = search needs
 
--- src/main.rt:132:9
 array-write-numbers-8 : tie.Need-array-write-numbers-8 Inv-loop μ-loop
 array-write-numbers-8 c = search needs
 
--- src/main.rt:133:9
 add-i : tie.Need-add-i Inv-loop μ-loop
 add-i c = search needs
 
--- src/main.rt:130:5
 loop-less : tie.Need-loop-less Inv-loop μ-loop
 loop-less c = search needs
 
--- src/main.rt:130:5
 loop-again : tie.Need-loop-again Inv-loop μ-loop
 loop-again c = search needs
 
--- src/main.rt:135:35
 slice-aggregate-print-line : tie.Need-slice-aggregate-print-line Inv-loop μ-loop
 slice-aggregate-print-line c = search needs
 
--- src/main.rt:135:5
 print-line-requires : tie.Need-print-line-requires Inv-loop μ-loop
 print-line-requires c κs = search needs
 
--- src/main.rt:120:1
 same-length : tie.Need-same-length Inv-loop μ-loop
 same-length c = search needs
 
--- src/main.rt:120:1
 returns : tie.Need-returns Inv-loop μ-loop
 returns c = search needs
 
@@ -144,7 +114,7 @@ print-state-spec =
     array-write-numbers-2
     wide-requires-3
     array-write-numbers-3
-    cast-numbers
+    wide2-requires
     array-write-numbers-4
     wide-requires-4
     array-write-numbers-5
@@ -155,11 +125,11 @@ print-state-spec =
     add-numbers
     mul-numbers-2
     array-write-numbers-7
-    mul-numbers-3
-    element-copy-out-numbers-2
-    cast-numbers-2
+    mul-wide2
+    element-copy-out-wide2
+    wide2-requires-2
     add-numbers-2
-    mul-numbers-4
+    mul-numbers-3
     array-write-numbers-8
     add-i
     loop-less

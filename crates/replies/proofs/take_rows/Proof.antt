@@ -1,74 +1,59 @@
+-- `replies::take_rows` is safe and ends: the slice keeps its length. The measure is the number of rows left. Assumes nothing.
+use Prim.Native.Nat.{_-_}
+use mathlib.Core.Path.{_≡_}
+use lib.ListN.{length}
 use borrow.Author.Needs.{needs}
 use Rattle.replies.proofs.take_rows.Statement.{statement}
 use Rattle.replies.proofs.take_rows.Tie as tie
-use Rattle.replies.proofs.take_rows.Reads as reads
-use Rattle.replies.proofs.take_rows.Lts as lts
-use Rattle.replies.proofs.number8.Reads as number8-reads
-use Rattle.replies.proofs.take.Reads as take-reads
 
 abbrev Inv-loop : tie.InvT-loop
-Inv-loop bytes count rows₀ k₀ rows k = ?
+Inv-loop bytes count rows₀ k₀ rows k = length rows ≡ length rows₀
 
 abbrev μ-loop : tie.MeasureT-loop
-μ-loop bytes count rows₀ k₀ rows k = ?
+μ-loop bytes count rows₀ k₀ rows k = count - k
 
--- src/main.rt:56:21
 mul-take : tie.Need-mul-take Inv-loop μ-loop
 mul-take c = search needs
 
--- src/main.rt:56:9
 take-requires : tie.Need-take-requires Inv-loop μ-loop
 take-requires c κs = search needs
 
--- src/main.rt:57:9
 same-length : tie.Need-same-length Inv-loop μ-loop
 same-length c = search needs
 
--- src/main.rt:57:9
 returns : tie.Need-returns Inv-loop μ-loop
 returns c = search needs
 
--- src/main.rt:60:5
 loop-holds : tie.Need-loop-holds Inv-loop μ-loop
 loop-holds c = search needs
 
--- src/main.rt:61:34
 mul-number8 : tie.Need-mul-number8 Inv-loop μ-loop
 mul-number8 c = search needs
 
--- src/main.rt:61:19
 number8-requires : tie.Need-number8-requires Inv-loop μ-loop
 number8-requires c κs = search needs
 
--- src/main.rt:61:9
 mul-rows : tie.Need-mul-rows Inv-loop μ-loop
 mul-rows c = search needs
 
--- src/main.rt:61:9
 slice-write-rows : tie.Need-slice-write-rows Inv-loop μ-loop
 slice-write-rows c = search needs
 
--- src/main.rt:62:9
 add-k : tie.Need-add-k Inv-loop μ-loop
 add-k c = search needs
 
--- src/main.rt:60:5
 loop-less : tie.Need-loop-less Inv-loop μ-loop
 loop-less c = search needs
 
--- src/main.rt:60:5
 loop-again : tie.Need-loop-again Inv-loop μ-loop
 loop-again c = search needs
 
--- src/main.rt:53:1
 same-length-2 : tie.Need-same-length-2 Inv-loop μ-loop
 same-length-2 c = search needs
 
--- src/main.rt:53:1
 same-length-3 : tie.Need-same-length-3 Inv-loop μ-loop
 same-length-3 c = search needs
 
--- src/main.rt:53:1
 returns-2 : tie.Need-returns-2 Inv-loop μ-loop
 returns-2 c = search needs
 
