@@ -1,0 +1,49 @@
+-- `inout::print_line` meets its contract: the size that was written lies within the text, and printing leaves the text as it is.
+-- Assumes nothing.
+use Prim.Native.Nat.{_≤_}
+use mathlib.Core.Path.{sym, ap}
+use native.Mathlib.Omega.{arith}
+use lib.ListN.{length}
+use lib.Seq.{length-take-le}
+use Rattle.listing.specs.declared.Written.{Written}
+use Rattle.inout.proofs.Laws.{line-fits}
+use borrow.Author.Needs.{needs}
+use Rattle.inout.proofs.print_line.Statement.{statement}
+use Rattle.inout.proofs.print_line.Tie as tie
+
+fits : (c : tie.After-write-line) → c .write-line .result .size ≤ length (c .write-line .last .0)
+fits c =
+    omega (
+      arith,
+      ap (λ (w : Written). w .size) (c .write-line .ensures .0),
+      line-fits (c .before .before .before .before .before .args .word .now) (c .before .before .before .before .before .args .numbers .now) (length (c .before .before .before .before .before .args .text .now)),
+    )
+
+write-line-requires : tie.Need-write-line-requires
+write-line-requires c κs = search needs
+
+slice-reshare-prefix-write-all : tie.Need-slice-reshare-prefix-write-all
+slice-reshare-prefix-write-all c = fits (c .before .before)
+
+slice-aggregate-write-all : tie.Need-slice-aggregate-write-all
+slice-aggregate-write-all c = sym (length-take-le _ _ (fits (c .before .before .before)))
+
+write-all-requires : tie.Need-write-all-requires
+write-all-requires c κs = search needs
+
+same-length : tie.Need-same-length
+same-length c = search needs
+
+returns : tie.Need-returns
+returns c = search needs
+
+pub print-line-spec : {M : Type 1} → statement M
+print-line-spec =
+    tie.close
+    (tie.spec
+    write-line-requires
+    slice-reshare-prefix-write-all
+    slice-aggregate-write-all
+    write-all-requires
+    same-length
+    returns)

@@ -1,0 +1,140 @@
+-- `replies::print_state` is safe and ends: there are 32 numbers throughout. The measure is the number of boxes left. Assumes nothing.
+use Prim.Native.Nat.{_-_}
+use mathlib.Core.Path.{_≡_}
+use lib.ListN.{length}
+use borrow.Author.Needs.{needs}
+use Rattle.replies.proofs.print_state.Statement.{statement}
+use Rattle.replies.proofs.print_state.Tie as tie
+
+abbrev Inv-loop : tie.InvT-loop
+Inv-loop text word run numbers₀ i₀ numbers i = length numbers ≡ 32
+
+abbrev μ-loop : tie.MeasureT-loop
+μ-loop text word run numbers₀ i₀ numbers i = 13 - i
+
+wide-requires : tie.Need-wide-requires Inv-loop μ-loop
+wide-requires c κs = search needs
+
+array-write-numbers : tie.Need-array-write-numbers Inv-loop μ-loop
+array-write-numbers c = search needs
+
+wide-requires-2 : tie.Need-wide-requires-2 Inv-loop μ-loop
+wide-requires-2 c κs = search needs
+
+array-write-numbers-2 : tie.Need-array-write-numbers-2 Inv-loop μ-loop
+array-write-numbers-2 c = search needs
+
+wide-requires-3 : tie.Need-wide-requires-3 Inv-loop μ-loop
+wide-requires-3 c κs = search needs
+
+array-write-numbers-3 : tie.Need-array-write-numbers-3 Inv-loop μ-loop
+array-write-numbers-3 c = search needs
+
+wide2-requires : tie.Need-wide2-requires Inv-loop μ-loop
+wide2-requires c κs = search needs
+
+array-write-numbers-4 : tie.Need-array-write-numbers-4 Inv-loop μ-loop
+array-write-numbers-4 c = search needs
+
+wide-requires-4 : tie.Need-wide-requires-4 Inv-loop μ-loop
+wide-requires-4 c κs = search needs
+
+array-write-numbers-5 : tie.Need-array-write-numbers-5 Inv-loop μ-loop
+array-write-numbers-5 c = search needs
+
+array-write-numbers-6 : tie.Need-array-write-numbers-6 Inv-loop μ-loop
+array-write-numbers-6 c = search needs
+
+loop-holds : tie.Need-loop-holds Inv-loop μ-loop
+loop-holds c = search needs
+
+mul-numbers : tie.Need-mul-numbers Inv-loop μ-loop
+mul-numbers c = search needs
+
+element-copy-out-numbers : tie.Need-element-copy-out-numbers Inv-loop μ-loop
+element-copy-out-numbers c = search needs
+
+add-numbers : tie.Need-add-numbers Inv-loop μ-loop
+add-numbers c = search needs
+
+mul-numbers-2 : tie.Need-mul-numbers-2 Inv-loop μ-loop
+mul-numbers-2 c = search needs
+
+array-write-numbers-7 : tie.Need-array-write-numbers-7 Inv-loop μ-loop
+array-write-numbers-7 c = search needs
+
+mul-wide2 : tie.Need-mul-wide2 Inv-loop μ-loop
+mul-wide2 c = search needs
+
+element-copy-out-wide2 : tie.Need-element-copy-out-wide2 Inv-loop μ-loop
+element-copy-out-wide2 c = search needs
+
+wide2-requires-2 : tie.Need-wide2-requires-2 Inv-loop μ-loop
+wide2-requires-2 c κs = search needs
+
+add-numbers-2 : tie.Need-add-numbers-2 Inv-loop μ-loop
+add-numbers-2 c = search needs
+
+mul-numbers-3 : tie.Need-mul-numbers-3 Inv-loop μ-loop
+mul-numbers-3 c = search needs
+
+array-write-numbers-8 : tie.Need-array-write-numbers-8 Inv-loop μ-loop
+array-write-numbers-8 c = search needs
+
+add-i : tie.Need-add-i Inv-loop μ-loop
+add-i c = search needs
+
+loop-less : tie.Need-loop-less Inv-loop μ-loop
+loop-less c = search needs
+
+loop-again : tie.Need-loop-again Inv-loop μ-loop
+loop-again c = search needs
+
+slice-aggregate-print-line : tie.Need-slice-aggregate-print-line Inv-loop μ-loop
+slice-aggregate-print-line c = search needs
+
+print-line-requires : tie.Need-print-line-requires Inv-loop μ-loop
+print-line-requires c κs = search needs
+
+same-length : tie.Need-same-length Inv-loop μ-loop
+same-length c = search needs
+
+returns : tie.Need-returns Inv-loop μ-loop
+returns c = search needs
+
+pub print-state-spec : {M : Type 1} → statement M
+print-state-spec =
+    tie.close
+    (tie.spec
+    Inv-loop
+    μ-loop
+    wide-requires
+    array-write-numbers
+    wide-requires-2
+    array-write-numbers-2
+    wide-requires-3
+    array-write-numbers-3
+    wide2-requires
+    array-write-numbers-4
+    wide-requires-4
+    array-write-numbers-5
+    array-write-numbers-6
+    loop-holds
+    mul-numbers
+    element-copy-out-numbers
+    add-numbers
+    mul-numbers-2
+    array-write-numbers-7
+    mul-wide2
+    element-copy-out-wide2
+    wide2-requires-2
+    add-numbers-2
+    mul-numbers-3
+    array-write-numbers-8
+    add-i
+    loop-less
+    loop-again
+    slice-aggregate-print-line
+    print-line-requires
+    same-length
+    returns)
