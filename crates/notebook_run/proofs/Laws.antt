@@ -9,9 +9,9 @@ use lib.Dec.{eqb}
 use lib.ListN.{length}
 use borrow.Author.Tests.{eqb-true, eq-eqb}
 use Rattle.sizes.specs.Sizes.{outside, tableRows, byN}
-use Rattle.sizes.proofs.Laws.{inside-high}
+use Rattle.sizes.proofs.Laws.{inside-high, table-le}
 use Rattle.runfile.specs.Reply.{headingRefusal, headingReply, headingOf, nothingRead}
-use Rattle.runfile.proofs.Laws.{table-rows-most, heading-accepted}
+use Rattle.runfile.proofs.Laws.{heading-accepted}
 use Rattle.run.specs.declared.Run.{Run}
 use Rattle.run.specs.declared.Next.{Next}
 use Rattle.run.specs.Iteration.{nextRun}
@@ -22,7 +22,7 @@ unfolding byN
 rows-most n = go (outside n) refl where
   go : (b : Bool) → outside n ≡ b → byN tableRows n ≤ 4563
   go true e = rw e (omega arith)
-  go false e = rw e (table-rows-most n e)
+  go false e = rw e (table-le (inside-high n e))
 
 pub heading-n : (bytes : List ℕ) (room : ℕ) → headingReply bytes room .n ≤ 13
 unfolding headingReply headingOf nothingRead

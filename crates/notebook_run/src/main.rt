@@ -64,7 +64,7 @@ fn put_box(run: Run, i: usize, text: &mut [u8], at: usize) -> usize
     requires { ⌜ (i < 13) × (at ≤ length (now text)) ⌝ }
     ensures { λ r. ⌜ r ≤ length (now (text .entry)) ⌝ }
 {
-    if gradecast::is_member(run.faulty, i) {
+    if sizes::is_member(run.faulty, i) {
         return at;
     }
     let numbers = [
