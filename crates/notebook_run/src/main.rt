@@ -60,19 +60,22 @@ fn take_iteration(run: Run, bytes: &mut [u8], table: &mut [u64]) -> Next
 }
 
 // Puts the line of box i at a place of the text, nothing for a faulty box, and gives the place behind it.
-fn put_box(run: Run, i: usize, text: &mut [u8], at: usize) -> usize
+fn put_box(
+    faulty: u16,
+    done: u8,
+    i: usize,
+    row: u64,
+    list: u16,
+    text: &mut [u8],
+    at: usize,
+) -> usize
     requires { ⌜ (i < 13) × (at ≤ length (now text)) ⌝ }
     ensures { λ r. ⌜ r ≤ length (now (text .entry)) ⌝ }
 {
-    if sizes::is_member(run.faulty, i) {
+    if sizes::is_member(faulty, i) {
         return at;
     }
-    let numbers = [
-        run.done as u64,
-        (i + 1) as u64,
-        run.rows[i],
-        run.lists[i] as u64,
-    ];
+    let numbers = [done as u64, (i + 1) as u64, row, list as u64];
     inout::put_line(text, at, b"at", &numbers)
 }
 
@@ -84,7 +87,15 @@ fn print_boxes(run: Run, text: &mut [u8])
     let mut size: usize = 0;
     let mut i: usize = 0;
     while i < n {
-        size = put_box(run, i, text, size);
+        size = put_box(
+            run.faulty,
+            run.done,
+            i,
+            run.rows[i],
+            run.lists[i],
+            text,
+            size,
+        );
         i += 1;
     }
     io::write_all(libc::STDOUT_FILENO, &text[..size]);

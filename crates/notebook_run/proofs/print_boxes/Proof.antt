@@ -10,16 +10,28 @@ use Rattle.notebook_run.proofs.print_boxes.Statement.{statement}
 use Rattle.notebook_run.proofs.print_boxes.Tie as tie
 
 abbrev Inv-loop : tie.InvT-loop
-Inv-loop run text₀ n size₀ i₀ text size i = (size ≤ length text₀) × (length text ≡ length text₀)
+Inv-loop text₀ run n size₀ i₀ text size i = (size ≤ length text₀) × (length text ≡ length text₀)
 
 abbrev μ-loop : tie.MeasureT-loop
-μ-loop run text₀ n size₀ i₀ text size i = n - i
+μ-loop text₀ run n size₀ i₀ text size i = n - i
 
 cast-n : tie.Need-cast-n Inv-loop μ-loop
 cast-n c = search needs
 
 loop-holds : tie.Need-loop-holds Inv-loop μ-loop
 loop-holds c = search needs
+
+mul-put-box : tie.Need-mul-put-box Inv-loop μ-loop
+mul-put-box c = search needs
+
+element-copy-out-put-box : tie.Need-element-copy-out-put-box Inv-loop μ-loop
+element-copy-out-put-box c = search needs
+
+mul-put-box-2 : tie.Need-mul-put-box-2 Inv-loop μ-loop
+mul-put-box-2 c = search needs
+
+element-copy-out-put-box-2 : tie.Need-element-copy-out-put-box-2 Inv-loop μ-loop
+element-copy-out-put-box-2 c = search needs
 
 put-box-requires : tie.Need-put-box-requires Inv-loop μ-loop
 put-box-requires c κs = search needs
@@ -56,6 +68,10 @@ print-boxes-spec =
     μ-loop
     cast-n
     loop-holds
+    mul-put-box
+    element-copy-out-put-box
+    mul-put-box-2
+    element-copy-out-put-box-2
     put-box-requires
     add-i
     loop-less
