@@ -25,35 +25,6 @@ fn small(byte: u8) -> usize
     byte as usize
 }
 
-// The number in the 2 bytes from a place on.
-fn number2(bytes: &[u8], at: usize) -> u64
-    requires { ⌜ at + 2 ≤ length (now bytes) ⌝ }
-    ensures { λ r. ⌜ r < 65536 ⌝ }
-{
-    let high = wide(bytes[at]);
-    let low = wide(bytes[at + 1]);
-    high * 256 + low
-}
-
-// The number in the 4 bytes from a place on.
-fn number4(bytes: &[u8], at: usize) -> u64
-    requires { ⌜ at + 4 ≤ length (now bytes) ⌝ }
-    ensures { λ r. ⌜ r < 4294967296 ⌝ }
-{
-    let high = number2(bytes, at);
-    let low = number2(bytes, at + 2);
-    high * 65536 + low
-}
-
-// The number in the 8 bytes from a place on.
-fn number8(bytes: &[u8], at: usize) -> u64
-    requires { ⌜ at + 8 ≤ length (now bytes) ⌝ }
-{
-    let high = number4(bytes, at);
-    let low = number4(bytes, at + 4);
-    high * 4294967296 + low
-}
-
 // Reads so many bytes to the front of the slice. Did all of them come?
 fn take(bytes: &mut [u8], size: usize) -> bool
     requires { ⌜ size ≤ length (now bytes) ⌝ }
@@ -70,7 +41,7 @@ fn take_rows(bytes: &mut [u8], count: usize, rows: &mut [u64]) -> bool
     }
     let mut k: usize = 0;
     while k < count {
-        rows[k] = number8(bytes, 8 * k);
+        rows[k] = runfile::number8(bytes, 8 * k);
         k += 1;
     }
     true
@@ -92,7 +63,7 @@ fn state_rows(bytes: &[u8]) -> [u64; 13]
     let mut rows = [0u64; 13];
     let mut i: usize = 0;
     while i < 13 {
-        rows[i] = number8(bytes, 13 + 8 * i);
+        rows[i] = runfile::number8(bytes, 13 + 8 * i);
         i += 1;
     }
     rows
@@ -105,7 +76,7 @@ fn state_lists(bytes: &[u8]) -> [u16; 13]
     let mut lists = [0u16; 13];
     let mut i: usize = 0;
     while i < 13 {
-        lists[i] = number2(bytes, 117 + 2 * i) as u16;
+        lists[i] = runfile::number2(bytes, 117 + 2 * i) as u16;
         i += 1;
     }
     lists
@@ -120,9 +91,9 @@ fn state(bytes: &[u8]) -> Run
     Run {
         n: bytes[0],
         t: bytes[1],
-        faulty: number2(bytes, 2) as u16,
+        faulty: runfile::number2(bytes, 2) as u16,
         done: bytes[4],
-        sent: number8(bytes, 5),
+        sent: runfile::number8(bytes, 5),
         rows,
         lists,
     }
@@ -218,7 +189,7 @@ fn answer_start(bytes: &mut [u8], rows: &mut [u64], text: &mut [u8]) -> bool
     }
     let n = bytes[0];
     let t = bytes[1];
-    let faulty = number2(bytes, 2) as u16;
+    let faulty = runfile::number2(bytes, 2) as u16;
     let count = small(bytes[4]);
     if !take_rows(bytes, count, rows) {
         return false;
@@ -235,7 +206,7 @@ fn answer_iteration(bytes: &mut [u8], rows: &mut [u64], text: &mut [u8]) -> bool
         return false;
     }
     let run = state(bytes);
-    let count = number2(bytes, 143) as usize;
+    let count = runfile::number2(bytes, 143) as usize;
     if 5000 < count {
         return false;
     }
@@ -318,8 +289,8 @@ fn answer_table(bytes: &mut [u8], numbers: &mut [u64], text: &mut [u8]) -> bool
         return false;
     }
     let n = bytes[0];
-    let size = number2(bytes, 1) as usize;
-    let room = number2(bytes, 3) as usize;
+    let size = runfile::number2(bytes, 1) as usize;
+    let room = runfile::number2(bytes, 3) as usize;
     if 5000 < room {
         return false;
     }
