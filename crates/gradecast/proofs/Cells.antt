@@ -23,3 +23,6 @@ module _ (n : ℕ) (f : ℕ → ℕ → ℕ) where
 -- the box and the leader of a place
 pub place-among : (n p : ℕ) → 1 ≤ n → p < n * n → Among n (p / n) (p % n)
 place-among n p low h = record { is-box = div-lt-iff-lt-mul low .1 h; is-leader = mod-lt p low }
+
+pub place-flipped : (n p : ℕ) → 1 ≤ n → p < n * n → Among n (p % n) (p / n)
+place-flipped n p low h = let a = place-among n p low h in record { is-box = a .is-leader; is-leader = a .is-box }

@@ -1,4 +1,4 @@
--- A column that is read from 169 cells is the column of the document: the cell at j * n + k is what box j sends about leader k
+-- A column that is read from 169 cells is the column of the document: the cell at k * n + j is what box j sends about leader k
 -- where j is sound, and a faulty box's cell is never heard.
 -- Assumes nothing.
 use mathlib.Core.Path.{_≡_, ap, _∙_}
@@ -11,32 +11,32 @@ use Rattle.counting.specs.Count.{build, front}
 use Rattle.counting.proofs.Build.{front-take, front-length, build-ext}
 use Rattle.tally.proofs.Replies.{Sized}
 use Rattle.gradecast.specs.Steps.{placeFrom, place2, place3, sends, hears, heard1, heard2, column2, voted, heard3, column3}
-use Rattle.gradecast.specs.Cast.{ofSound, cells, heardFrom}
+use Rattle.gradecast.specs.Cast.{ofSound, byLeader, cells, heardFrom}
 use Rattle.gradecast.proofs.Cells.{cells-at}
 use Rattle.gradecast.proofs.Sound.{sends-sound}
 
 module _ (n faulty : ℕ) (lists table said : List ℕ) (i k : ℕ) (leader : k < n) where
   -- for any step: said holds what the sound boxes send
-  column-is : (base : ℕ) (f : ℕ → ℕ → ℕ) → said ≡ cells n (ofSound faulty f) →
+  column-is : (base : ℕ) (f : ℕ → ℕ → ℕ) → said ≡ cells n (byLeader faulty f) →
       take n (front n (heardFrom base n (getD lists i 0) faulty table said i k) (replicate 13 0)) ≡
       build n (λ j. hears (getD lists i 0) j (sends faulty table j (placeFrom base n j i k) (f j k)))
-  unfolding heardFrom
+  unfolding heardFrom byLeader
   column-is base f e =
       front-take n (heardFrom base n (getD lists i 0) faulty table said i k) (replicate 13 0)
       ∙ build-ext n (heardFrom base n (getD lists i 0) faulty table said i k)
       (λ j. hears (getD lists i 0) j (sends faulty table j (placeFrom base n j i k) (f j k)))
       (λ j l.
       ap (λ (m : ℕ). hears (getD lists i 0) j (sends faulty table j (placeFrom base n j i k) m))
-      (ap (λ (xs : List ℕ). getD xs (j * n + k) 0) e ∙ cells-at n (ofSound faulty f) j k l leader)
+      (ap (λ (xs : List ℕ). getD xs (k * n + j) 0) e ∙ cells-at n (byLeader faulty f) k j leader l)
       ∙ ap (hears (getD lists i 0) j) (sends-sound faulty table f j k (placeFrom base n j i k)))
 
-  pub column-2 : (rows : List ℕ) → said ≡ cells n (ofSound faulty (heard1 n faulty rows lists table)) →
+  pub column-2 : (rows : List ℕ) → said ≡ cells n (byLeader faulty (heard1 n faulty rows lists table)) →
       take n (front n (heardFrom (n * n) n (getD lists i 0) faulty table said i k) (replicate 13 0)) ≡
       column2 n faulty rows lists table i k
   unfolding column2 heard2 place2
   column-2 rows e = column-is (n * n) (heard1 n faulty rows lists table) e
 
-  pub column-3 : (t : ℕ) (rows : List ℕ) → said ≡ cells n (ofSound faulty (voted n t faulty rows lists table)) →
+  pub column-3 : (t : ℕ) (rows : List ℕ) → said ≡ cells n (byLeader faulty (voted n t faulty rows lists table)) →
       take n (front n (heardFrom (n * n + n * n * n) n (getD lists i 0) faulty table said i k) (replicate 13 0)) ≡
       column3 n t faulty rows lists table i k
   unfolding column3 heard3 place3

@@ -14,6 +14,10 @@ use Rattle.gradecast.specs.Steps.{placeFrom, sends, hears, heard1, voted
 unfoldable pub ofSound : ℕ → (ℕ → ℕ → ℕ) → ℕ → ℕ → ℕ
 ofSound faulty f i k = cond (sound faulty i) (f i k) 0
 
+-- the same, leader by leader: what box j sends about leader k in steps 2 and 3
+unfoldable pub byLeader : ℕ → (ℕ → ℕ → ℕ) → ℕ → ℕ → ℕ
+byLeader faulty f k j = ofSound faulty f j k
+
 -- n rows of n numbers in 169 places: f i k stands at place i * n + k
 unfoldable pub cells : ℕ → (ℕ → ℕ → ℕ) → List ℕ
 cells n f = front (n * n) (λ p. f (p / n) (p % n)) (replicate 169 0)
@@ -21,7 +25,7 @@ cells n f = front (n * n) (λ p. f (p / n) (p % n)) (replicate 169 0)
 -- what a box i with this list hears from box j about leader k, where what sound boxes send stands in 169 places
 unfoldable pub heardFrom : ℕ → ℕ → ℕ → ℕ → List ℕ → List ℕ → ℕ → ℕ → ℕ → ℕ
 heardFrom base n list faulty table said i k j =
-    hears list j (sends faulty table j (placeFrom base n j i k) (getD said (j * n + k) 0))
+    hears list j (sends faulty table j (placeFrom base n j i k) (getD said (k * n + j) 0))
 
 -- what steps 1 to 4 may count on: the call was not refused by 4 or 11
 pub record Ready (n : ℕ) (table : List ℕ) : Type 0 where
@@ -38,26 +42,26 @@ module _ (n t faulty : ℕ) (lists table said : List ℕ) where
   -- said is what the sound boxes send in step 2, from some rows; then r is what box i sends in step 3 about leader k
   abbrev pub VoteCell : ℕ → ℕ → ℕ → Type 0
   VoteCell i k r =
-      (rows : List ℕ) → said ≡ cells n (ofSound faulty (heard1 n faulty rows lists table)) →
+      (rows : List ℕ) → said ≡ cells n (byLeader faulty (heard1 n faulty rows lists table)) →
       r ≡ ofSound faulty (voted n t faulty rows lists table) i k
 
   -- the same of all cells
   abbrev pub AllVotes : List ℕ → Type 0
   AllVotes r =
-      (rows : List ℕ) → said ≡ cells n (ofSound faulty (heard1 n faulty rows lists table)) →
-      r ≡ cells n (ofSound faulty (voted n t faulty rows lists table))
+      (rows : List ℕ) → said ≡ cells n (byLeader faulty (heard1 n faulty rows lists table)) →
+      r ≡ cells n (byLeader faulty (voted n t faulty rows lists table))
 
   -- said is what the sound boxes send in step 3; then r is the grade of box i for leader k
   abbrev pub GradeCell : ℕ → ℕ → Graded → Type 0
   GradeCell i k r =
-      (rows : List ℕ) → said ≡ cells n (ofSound faulty (voted n t faulty rows lists table)) →
+      (rows : List ℕ) → said ≡ cells n (byLeader faulty (voted n t faulty rows lists table)) →
       (r .row ≡ ofSound faulty (gradeRow n t faulty rows lists table) i k) ×
       (r .confidence ≡ ofSound faulty (confidence n t faulty rows lists table) i k)
 
   -- the same of all cells
   abbrev pub AllGrades : Cast → Type 0
   AllGrades r =
-      (rows : List ℕ) → said ≡ cells n (ofSound faulty (voted n t faulty rows lists table)) →
+      (rows : List ℕ) → said ≡ cells n (byLeader faulty (voted n t faulty rows lists table)) →
       (r .rows ≡ cells n (ofSound faulty (gradeRow n t faulty rows lists table))) ×
       (r .confidences ≡ cells n (ofSound faulty (confidence n t faulty rows lists table)))
 

@@ -11,6 +11,7 @@ ghost use Rattle.gradecast.specs.Cast.{
   Ready,
   Among,
   ofSound,
+  byLeader,
   cells,
   heardFrom,
   VoteCell,
@@ -78,16 +79,16 @@ fn step1_cell(
     hear(lists[i], faulty, table, k, place, rows[k])
 }
 
-// Step 1: V of every sound box, which it sends in step 2.
+// Step 1: V of every sound box, which it sends in step 2, leader by leader.
 fn step1(n: usize, faulty: u16, rows: &[u64; 13], lists: &[u16; 13], table: &[u64]) -> [u64; 169]
     requires { ⌜ Ready n (now table) ⌝ }
-    ensures { λ r. ⌜ r ≡ cells n (ofSound faulty (heard1 n faulty (now (rows .entry)) (now (lists .entry)) (now (table .entry)))) ⌝ }
+    ensures { λ r. ⌜ r ≡ cells n (byLeader faulty (heard1 n faulty (now (rows .entry)) (now (lists .entry)) (now (table .entry)))) ⌝ }
 {
     let mut out = [0u64; 169];
     let size = n * n;
     let mut p: usize = 0;
     while p < size {
-        out[p] = step1_cell(n, faulty, rows, lists, table, p / n, p % n);
+        out[p] = step1_cell(n, faulty, rows, lists, table, p % n, p / n);
         p += 1;
     }
     out
@@ -111,7 +112,7 @@ fn column(
     let mut j: usize = 0;
     while j < n {
         let place = place_from(base, n, j, i, k);
-        out[j] = hear(list, faulty, table, j, place, said[j * n + k]);
+        out[j] = hear(list, faulty, table, j, place, said[k * n + j]);
         j += 1;
     }
     out
@@ -138,7 +139,7 @@ fn step3_cell(
     tally::vote(&heard[..n], t).row
 }
 
-// Steps 2 and 3: Y of every sound box, which it sends in step 3.
+// Steps 2 and 3: Y of every sound box, which it sends in step 3, leader by leader.
 fn step3(
     n: usize,
     t: u8,
@@ -154,7 +155,7 @@ fn step3(
     let size = n * n;
     let mut p: usize = 0;
     while p < size {
-        out[p] = step3_cell(n, t, faulty, lists, table, second, p / n, p % n);
+        out[p] = step3_cell(n, t, faulty, lists, table, second, p % n, p / n);
         p += 1;
     }
     out

@@ -27,16 +27,16 @@ place-from-requires : tie.Need-place-from-requires Inv-loop μ-loop
 place-from-requires c κs = (c .before .before .before .pre .0 .high, omega (arith, table-le (c .before .before .before .pre .0 .high), c .before .before .before .pre .2), c .loop-test .taken, c .before .before .before .pre .1)
 
 mul-hear : tie.Need-mul-hear Inv-loop μ-loop
-mul-hear c = omega (arith, square-le (c .before .before .before .before .pre .0 .high), two-digits {a = c .before .before .loop .j} (omega arith) (c .before .before .before .before .pre .1 .is-leader))
+mul-hear c = omega (arith, square-le (c .before .before .before .before .pre .0 .high), two-digits {b = c .before .before .loop .j} (c .before .before .before .before .pre .1 .is-leader) (omega arith))
 
 add-hear : tie.Need-add-hear Inv-loop μ-loop
-add-hear c = omega (arith, square-le (c .before .before .before .before .pre .0 .high), two-digits {a = c .before .before .loop .j} (omega arith) (c .before .before .before .before .pre .1 .is-leader))
+add-hear c = omega (arith, square-le (c .before .before .before .before .pre .0 .high), two-digits {b = c .before .before .loop .j} (c .before .before .before .before .pre .1 .is-leader) (omega arith))
 
 mul-hear-2 : tie.Need-mul-hear-2 Inv-loop μ-loop
-mul-hear-2 c = omega (arith, square-le (c .before .before .before .before .pre .0 .high), two-digits {a = c .before .before .loop .j} (omega arith) (c .before .before .before .before .pre .1 .is-leader))
+mul-hear-2 c = omega (arith, square-le (c .before .before .before .before .pre .0 .high), two-digits {b = c .before .before .loop .j} (c .before .before .before .before .pre .1 .is-leader) (omega arith))
 
 element-copy-out-hear : tie.Need-element-copy-out-hear Inv-loop μ-loop
-element-copy-out-hear c = omega (arith, square-le (c .before .before .before .before .pre .0 .high), two-digits {a = c .before .before .loop .j} (omega arith) (c .before .before .before .before .pre .1 .is-leader))
+element-copy-out-hear c = omega (arith, square-le (c .before .before .before .before .pre .0 .high), two-digits {b = c .before .before .loop .j} (c .before .before .before .before .pre .1 .is-leader) (omega arith))
 
 hear-requires : tie.Need-hear-requires Inv-loop μ-loop
 hear-requires c κs = omega (arith, c .before .before .before .before .before .pre .0, c .before .before .before .before .before .pre .2, c .before .place-from .ensures .1)
@@ -61,7 +61,7 @@ loop-again c =
       search needs,
       front-turn _ _ (replicate 13 0) _ (omega (arith, c .before .before .before .before .before .before .pre .0)) (c .before .before .before .before .loop .inv .1)
           (c .hear .ensures
-          ∙ ap (λ (p : ℕ). hears (a .list) j (sends (a .faulty) (a .table .now) j p (getD (a .said .now) (j * a .n + a .k) 0)))
+          ∙ ap (λ (p : ℕ). hears (a .list) j (sends (a .faulty) (a .table .now) j p (getD (a .said .now) (a .k * a .n + j) 0)))
           (c .before .before .place-from .ensures .0)),
     )
 

@@ -1,4 +1,4 @@
--- `gradecast::step3` meets its contract: after p turns the first p cells are filled, cell p for box p / n and leader p % n. What is left
+-- `gradecast::step3` meets its contract: after p turns the first p cells are filled, cell p for leader p / n and box p % n. What is left
 -- of n² falls. Assumes nothing.
 use mathlib.Core.Path.{_≡_, refl}
 use mathlib.Core.List.{List}
@@ -9,8 +9,8 @@ use Rattle.sizes.proofs.Laws.{square-le}
 use Rattle.counting.proofs.Build.{front-none, front-turn, front-whole}
 use Rattle.counting.specs.Count.{front}
 use Rattle.gradecast.specs.Steps.{heard1, voted}
-use Rattle.gradecast.specs.Cast.{ofSound, cells}
-use Rattle.gradecast.proofs.Cells.{place-among}
+use Rattle.gradecast.specs.Cast.{byLeader, cells}
+use Rattle.gradecast.proofs.Cells.{place-flipped}
 use borrow.Author.Needs.{needs}
 use Rattle.gradecast.proofs.step3.Statement.{statement}
 use Rattle.gradecast.proofs.step3.Tie as tie
@@ -19,8 +19,8 @@ abbrev Inv-loop : tie.InvT-loop
 Inv-loop n t faulty lists table second out₀ size p₀ out p =
     (p ≤ n * n) ×
     (size ≡ n * n) ×
-    ((held : List ℕ) → second ≡ cells n (ofSound faulty (heard1 n faulty held lists table)) →
-    out ≡ front p (λ q. ofSound faulty (voted n t faulty held lists table) (q / n) (q % n)) (replicate 169 0))
+    ((held : List ℕ) → second ≡ cells n (byLeader faulty (heard1 n faulty held lists table)) →
+    out ≡ front p (λ q. byLeader faulty (voted n t faulty held lists table) (q / n) (q % n)) (replicate 169 0))
 
 abbrev μ-loop : tie.MeasureT-loop
 μ-loop n t faulty lists table second out₀ size p₀ out p = n * n - p
@@ -38,7 +38,7 @@ rem-step3-cell : tie.Need-rem-step3-cell Inv-loop μ-loop
 rem-step3-cell c = omega (arith, c .before .before .before .pre .0 .low)
 
 step3-cell-requires : tie.Need-step3-cell-requires Inv-loop μ-loop
-step3-cell-requires c κs = (c .before .before .before .pre .0, place-among _ _ (c .before .before .before .pre .0 .low) (omega arith), c .before .before .before .pre .1)
+step3-cell-requires c κs = (c .before .before .before .pre .0, place-flipped _ _ (c .before .before .before .pre .0 .low) (omega arith), c .before .before .before .pre .1)
 
 mul-out : tie.Need-mul-out Inv-loop μ-loop
 mul-out c = omega (arith, square-le (c .before .before .before .before .pre .0 .high))
@@ -53,6 +53,7 @@ loop-less : tie.Need-loop-less Inv-loop μ-loop
 loop-less c = search needs
 
 loop-again : tie.Need-loop-again Inv-loop μ-loop
+unfolding byLeader
 loop-again c = (
   omega arith,
   refl,

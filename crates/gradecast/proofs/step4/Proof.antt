@@ -9,7 +9,7 @@ use Rattle.sizes.proofs.Laws.{square-le}
 use Rattle.counting.proofs.Build.{front-none, front-turn, front-whole}
 use Rattle.counting.specs.Count.{front}
 use Rattle.gradecast.specs.Steps.{voted, gradeRow, confidence}
-use Rattle.gradecast.specs.Cast.{ofSound, cells}
+use Rattle.gradecast.specs.Cast.{ofSound, byLeader, cells}
 use Rattle.gradecast.proofs.Cells.{place-among}
 use borrow.Author.Needs.{needs}
 use Rattle.gradecast.proofs.step4.Statement.{statement}
@@ -19,7 +19,7 @@ abbrev Inv-loop : tie.InvT-loop
 Inv-loop n t faulty lists table third sent rows₀ confidences₀ size p₀ rows confidences p =
     (p ≤ n * n) ×
     (size ≡ n * n) ×
-    ((held : List ℕ) → third ≡ cells n (ofSound faulty (voted n t faulty held lists table)) →
+    ((held : List ℕ) → third ≡ cells n (byLeader faulty (voted n t faulty held lists table)) →
     (rows ≡ front p (λ q. ofSound faulty (gradeRow n t faulty held lists table) (q / n) (q % n)) (replicate 169 0)) ×
     (confidences ≡ front p (λ q. ofSound faulty (confidence n t faulty held lists table) (q / n) (q % n)) (replicate 169 0)))
 

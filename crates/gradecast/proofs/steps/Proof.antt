@@ -5,7 +5,7 @@ use Prim.Native.Nat.{ℕ, _+_, _*_}
 use native.Mathlib.Omega.{arith}
 use Rattle.sizes.proofs.Laws.{square-le, table-le}
 use Rattle.gradecast.specs.Steps.{voted, messages}
-use Rattle.gradecast.specs.Cast.{ofSound, cells}
+use Rattle.gradecast.specs.Cast.{byLeader, cells}
 use Rattle.gradecast.proofs.Messages.{messages-bound}
 use Rattle.gradecast.proofs.Sent.{length-front, front-within, messages-counted, cast-is}
 use borrow.Author.Needs.{needs}
@@ -15,7 +15,7 @@ use Rattle.gradecast.proofs.steps.Tie as tie
 -- what the sound boxes send in step 3
 third : (c : tie.After-step3) →
     let a = c .before .before .before .before .args in
-    c .step3 .result ≡ cells (a .n) (ofSound (a .faulty) (voted (a .n) (a .t) (a .faulty) (a .rows .now) (a .lists .now) (a .table .now)))
+    c .step3 .result ≡ cells (a .n) (byLeader (a .faulty) (voted (a .n) (a .t) (a .faulty) (a .rows .now) (a .lists .now) (a .table .now)))
 third c = c .step3 .ensures (c .before .before .before .before .args .rows .now) (c .before .before .step1 .ensures)
 
 -- the three counts, n times
