@@ -4,7 +4,7 @@ use mathlib.Core.Path.{_≡_, refl, sym, ap, ap₂, _∙_}
 use mathlib.Core.List.{List, [], _∷_, _++_, append-nil}
 use mathlib.Core.Logic.{⊎-elim}
 use Prim.Native.Nat.{ℕ, zero, suc, _+_, _≤_, _<_}
-use native.Mathlib.Nat.{le-refl, not-suc-le-zero}
+use native.Mathlib.Nat.{le-refl, not-suc-le-zero, add-assoc}
 use native.Mathlib.Numerals.{add-one}
 use native.Mathlib.Omega.{arith}
 use lib.ListN.{length, getD, take, drop, set, length-append, length-drop, drop-of-length-le, List·getD-append}
@@ -87,3 +87,13 @@ pub front-all : (f : ℕ → ℕ) (xs : List ℕ) {ys : List ℕ} (n : ℕ) → 
 unfolding front
 front-all f xs n e h =
     h ∙ ap (λ (zs : List ℕ). build n f ++ zs) (drop-of-length-le xs {i = n} (omega arith)) ∙ append-nil (build n f)
+
+-- four places a turn
+pub front-four : (n : ℕ) (f : ℕ → ℕ) (xs ys : List ℕ) {a b c d : ℕ} → n + 4 ≤ length xs → ys ≡ front n f xs →
+    a ≡ f n → b ≡ f (n + 1) → c ≡ f (n + 2) → d ≡ f (n + 3) →
+    set (set (set (set ys n a) (n + 1) b) (n + 2) c) (n + 3) d ≡ front (n + 4) f xs
+front-four n f xs ys l e ha hb hc hd =
+    next 3 (next 2 (next 1 (front-turn n f xs ys (omega arith) e ha) hb (omega arith)) hc (omega arith)) hd (omega arith)
+  where
+    next : (k : ℕ) {zs : List ℕ} {v : ℕ} → zs ≡ front (n + k) f xs → v ≡ f (n + k) → k < 4 → set zs (n + k) v ≡ front (n + (k + 1)) f xs
+    next k {zs} q h s = front-turn (n + k) f xs zs (omega arith) q h ∙ ap (λ (m : ℕ). front m f xs) (add-assoc n k 1)

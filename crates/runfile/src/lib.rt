@@ -1,12 +1,13 @@
 // The run file: the heading reader and the table reader. All numbers stand most significant byte first.
 ghost use mathlib.Core.Path.{_≡_};
+ghost use mathlib.Core.List.{List};
 ghost use mathlib.Core.Bool.{false, not, _&&_};
-ghost use Prim.Native.Nat.{_+_, _*_, _≤_, _<_};
+ghost use Prim.Native.Nat.{ℕ, _+_, _*_, _≤_, _<_};
 ghost use lib.Dec.{eqb};
 ghost use lib.ListN.{length};
 ghost use Rattle.counting.specs.Count.{build, front};
 ghost use Rattle.sizes.specs.Sizes.{outside, tooMany, soundZero};
-ghost use Rattle.runfile.specs.File.{number, marked, nOf, tOf, headingBytes, rowFrom, headingRow};
+ghost use Rattle.runfile.specs.File.{number, marked, nOf, tOf, headingBytes, rowFrom, headingRow, fourFrom};
 ghost use Rattle.runfile.specs.Reply.{headingRefusal, headingOf, headingReply, headingWrites, tableRefusal, tableWrites};
 
 // The reply of the heading reader: the refusal's number, or 0 with what the heading says.
@@ -155,16 +156,40 @@ fn heading_refusal(bytes: &[u8], room: usize) -> u8
     0
 }
 
-// Writes so many rows, which begin at a place of the bytes, at the front of the slice.
+// Writes four rows, the first of which begins at a place of the bytes, from place k of the slice on.
+fn write_four(bytes: &[u8], place: usize, rows: &mut [u64], k: usize)
+    requires { ⌜ (place + 32 ≤ length (now bytes)) × (k + 4 ≤ length (now rows)) ⌝ }
+    ensures { λ r. ⌜ now (rows .exit) ≡ fourFrom (now (bytes .entry)) place (now (rows .entry)) k ⌝ }
+{
+    rows[k] = number8(bytes, place);
+    rows[k + 1] = number8(bytes, place + 8);
+    rows[k + 2] = number8(bytes, place + 16);
+    rows[k + 3] = number8(bytes, place + 24);
+}
+
+// Writes the rows from place k to a count, one by one; those before stand already.
+fn write_rest(bytes: &[u8], at: usize, from: usize, count: usize, rows: &mut [u64])
+    requires { ⌜ (at + 8 * count ≤ length (now bytes)) × (from ≤ count) × (count ≤ length (now rows)) ⌝ }
+    ensures { λ r. ⌜ ((xs : List ℕ) → length xs ≡ length (now (rows .entry)) → now (rows .entry) ≡ front from (rowFrom at (now (bytes .entry))) xs → now (rows .exit) ≡ front count (rowFrom at (now (bytes .entry))) xs) ⌝ }
+{
+    let mut k = from;
+    while k < count {
+        rows[k] = number8(bytes, at + 8 * k);
+        k += 1;
+    }
+}
+
+// Writes so many rows, which begin at a place of the bytes, at the front of the slice: four a turn, then the rest.
 fn write_rows(bytes: &[u8], at: usize, count: usize, rows: &mut [u64])
     requires { ⌜ (at + 8 * count ≤ length (now bytes)) × (count ≤ length (now rows)) ⌝ }
     ensures { λ r. ⌜ now (rows .exit) ≡ front count (rowFrom at (now (bytes .entry))) (now (rows .entry)) ⌝ }
 {
     let mut k: usize = 0;
-    while k < count {
-        rows[k] = number8(bytes, at + 8 * k);
-        k += 1;
+    while k + 4 <= count {
+        write_four(bytes, at + 8 * k, rows, k);
+        k += 4;
     }
+    write_rest(bytes, at, k, count, rows);
 }
 
 // What a heading that is not refused says.

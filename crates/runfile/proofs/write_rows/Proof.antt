@@ -1,42 +1,36 @@
--- `runfile::write_rows` meets its contract: after k turns the first k rows stand at the front of the slice, whose length stays. What is
--- left of the count falls. Assumes nothing.
-use mathlib.Core.Path.{_≡_, ap, _∙_}
-use Prim.Native.Nat.{_≤_, _-_}
+-- `runfile::write_rows` meets its contract: after each turn the first k rows stand at the front of the slice, whose length stays; the rest follow
+-- one by one. What is left of the count falls. Assumes nothing.
+use mathlib.Core.Path.{_≡_, refl, sym, ap, _∙_}
+use Prim.Native.Nat.{ℕ, _+_, _*_, _≤_, _-_}
 use native.Mathlib.Omega.{arith}
 use lib.ListN.{length}
-use Rattle.runfile.specs.File.{rowFrom}
+use Rattle.runfile.specs.File.{rowFrom, number, fourFrom}
 use Rattle.counting.specs.Count.{front}
-use Rattle.counting.proofs.Build.{front-none, front-turn, front-length}
+use Rattle.counting.proofs.Build.{front-none, front-four}
 use borrow.Author.Needs.{needs}
 use Rattle.runfile.proofs.write_rows.Statement.{statement}
 use Rattle.runfile.proofs.write_rows.Tie as tie
 
 abbrev Inv-loop : tie.InvT-loop
-Inv-loop bytes at count rows₀ k₀ rows k = (k ≤ count) × (rows ≡ front k (rowFrom at bytes) rows₀)
+Inv-loop bytes at count rows₀ k₀ rows k = (k ≤ count) × (length rows ≡ length rows₀) × (rows ≡ front k (rowFrom at bytes) rows₀)
 
 abbrev μ-loop : tie.MeasureT-loop
 μ-loop bytes at count rows₀ k₀ rows k = count - k
 
 loop-holds : tie.Need-loop-holds Inv-loop μ-loop
-loop-holds c = (search needs, front-none _ _)
+loop-holds c = (search needs, refl, front-none _ _)
 
-mul-number8 : tie.Need-mul-number8 Inv-loop μ-loop
-mul-number8 c = search needs
+add-loop : tie.Need-add-loop Inv-loop μ-loop
+add-loop c = omega (arith, c .before .before .before .pre .0)
 
-add-number8 : tie.Need-add-number8 Inv-loop μ-loop
-add-number8 c = search needs
+mul-write-four : tie.Need-mul-write-four Inv-loop μ-loop
+mul-write-four c = omega (arith, c .before .before .before .before .pre .0)
 
-number8-requires : tie.Need-number8-requires Inv-loop μ-loop
-number8-requires c κs = search needs
+add-write-four : tie.Need-add-write-four Inv-loop μ-loop
+add-write-four c = omega (arith, c .before .before .before .before .pre .0)
 
-mul-rows : tie.Need-mul-rows Inv-loop μ-loop
-mul-rows c = search needs
-
-slice-write-rows : tie.Need-slice-write-rows Inv-loop μ-loop
-slice-write-rows c =
-    let f = c .before .before .before .before .before .args in
-    let l : c .before .before .loop .k ≤ length (f .rows .now) = omega arith in
-    omega (arith, ap length (c .before .before .loop .inv .1), front-length (c .before .before .loop .k) (rowFrom (f .at) (f .bytes .now)) (f .rows .now) l)
+write-four-requires : tie.Need-write-four-requires Inv-loop μ-loop
+write-four-requires c κs = omega (arith, c .before .before .before .before .before .pre, c .before .before .loop .inv .1)
 
 add-k : tie.Need-add-k Inv-loop μ-loop
 add-k c = search needs
@@ -45,16 +39,29 @@ loop-less : tie.Need-loop-less Inv-loop μ-loop
 loop-less c = search needs
 
 loop-again : tie.Need-loop-again Inv-loop μ-loop
-unfolding rowFrom
-loop-again c = (search needs, front-turn _ _ _ _ (search needs) (c .before .before .loop .inv .1) (c .number8 .ensures))
+unfolding rowFrom fourFrom
+loop-again c =
+    let a = c .before .before .before .before .before .before .before .before .args in
+    let k = c .before .before .before .before .before .loop .k in
+    let bytes = a .bytes .now in
+    let e1 : a .at + 8 * k + 8 ≡ a .at + 8 * (k + 1) = omega arith in
+    let e2 : a .at + 8 * k + 16 ≡ a .at + 8 * (k + 2) = omega arith in
+    let e3 : a .at + 8 * k + 24 ≡ a .at + 8 * (k + 3) = omega arith in (
+      search needs,
+      c .before .before .write-four .kept .1 .1 .0 ∙ c .before .before .before .before .before .loop .inv .1,
+      c .before .before .write-four .ensures
+          ∙ front-four k (rowFrom (a .at) bytes) (a .rows .now) _ (omega (arith, c .before .before .before .before .before .before .before .before .pre .1)) (c .before .before .before .before .before .loop .inv .2) refl
+          (ap (λ (m : ℕ). number bytes m 8) e1) (ap (λ (m : ℕ). number bytes m 8) e2) (ap (λ (m : ℕ). number bytes m 8) e3),
+    )
+
+write-rest-requires : tie.Need-write-rest-requires Inv-loop μ-loop
+write-rest-requires c κs = omega (arith, c .before .before .before .before .before .pre, c .before .before .loop .inv .1)
 
 same-length : tie.Need-same-length Inv-loop μ-loop
-same-length c =
-    let f = c .before .before .before .before .args in
-    ap length (c .before .loop .inv .1) ∙ front-length (c .before .loop .k) (rowFrom (f .at) (f .bytes .now)) (f .rows .now) (omega arith)
+same-length c = c .before .before .write-rest .kept .1 .1 .1 .1 .0 ∙ c .before .before .before .before .before .loop .inv .1
 
 returns : tie.Need-returns Inv-loop μ-loop
-returns c = let whole : c .before .loop .k ≡ c .before .before .before .before .args .count = omega arith in rw (← whole) (c .before .loop .inv .1)
+returns c = c .before .before .write-rest .ensures _ (sym (c .before .before .before .before .before .loop .inv .1)) (c .before .before .before .before .before .loop .inv .2)
 
 pub write-rows-spec : {M : Type 1} → statement M
 write-rows-spec =
@@ -63,13 +70,13 @@ write-rows-spec =
     Inv-loop
     μ-loop
     loop-holds
-    mul-number8
-    add-number8
-    number8-requires
-    mul-rows
-    slice-write-rows
+    add-loop
+    mul-write-four
+    add-write-four
+    write-four-requires
     add-k
     loop-less
     loop-again
+    write-rest-requires
     same-length
     returns)
