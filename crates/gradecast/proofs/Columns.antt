@@ -11,7 +11,7 @@ use Rattle.counting.specs.Count.{build, front}
 use Rattle.counting.proofs.Build.{front-take, front-length, build-ext}
 use Rattle.tally.proofs.Replies.{Sized}
 use Rattle.gradecast.specs.Steps.{placeFrom, place2, place3, sends, hears, heard1, heard2, column2, voted, heard3, column3}
-use Rattle.gradecast.specs.Cast.{ofSound, byLeader, cells, heardFrom}
+use Rattle.gradecast.specs.Cast.{byLeader, cells, heardFrom}
 use Rattle.gradecast.proofs.Cells.{cells-at}
 use Rattle.gradecast.proofs.Sound.{sends-sound}
 

@@ -1,10 +1,10 @@
 -- `inout::put_line` meets its contract: the line is written at the front of what lies from the place on, and its size lies within that.
 -- Assumes nothing.
 use Prim.Native.Nat.{ℕ, _+_, _-_, _≤_}
-use mathlib.Core.Path.{_≡_, sym, ap, _∙_, subst}
+use mathlib.Core.Path.{_≡_, ap, _∙_}
 use mathlib.Core.List.{List, _++_}
 use native.Mathlib.Omega.{arith}
-use lib.ListN.{length, take, drop, length-drop}
+use lib.ListN.{length, take, length-drop}
 use Rattle.listing.specs.declared.Written.{Written}
 use Rattle.listing.specs.Line.{lineReply, lineWrites}
 use Rattle.inout.proofs.Laws.{line-fits, rest-whole, rest-none}

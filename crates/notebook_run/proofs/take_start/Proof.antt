@@ -1,5 +1,5 @@
 -- `notebook_run::take_start` is safe: a heading's reply says at most 13 boxes, refused or not, and so does a start over it. Assumes nothing.
-use Prim.Native.Nat.{ℕ, _≤_}
+use Prim.Native.Nat.{_≤_}
 use native.Mathlib.Nat.{le-trans}
 use mathlib.Core.Path.{sym, subst}
 use native.Mathlib.Omega.{arith}

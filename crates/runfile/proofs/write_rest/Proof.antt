@@ -1,6 +1,6 @@
 -- `runfile::write_rest` meets its contract: after each turn the rows before k stand at the front, if those before the start did. The slice keeps
 -- its length, and what is left of the count falls. Assumes nothing.
-use mathlib.Core.Path.{_≡_, refl, _∙_}
+use mathlib.Core.Path.{_≡_, refl}
 use mathlib.Core.List.{List}
 use Prim.Native.Nat.{ℕ, _≤_, _-_}
 use native.Mathlib.Omega.{arith}
