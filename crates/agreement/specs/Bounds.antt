@@ -13,6 +13,7 @@ abbrev pub splitting : ℕ → List ℕ
 splitting m =
     set (set (set (set (silent 4) (place1 4 3 0) 20) (place1 4 3 1) 20) (place2 4 3 0 3) 20) (place3 4 3 1 3) 20
 
+-- rows 10, 20, 30; box 3 is faulty
 abbrev pub three : List ℕ
 three = 10 ∷ 20 ∷ 30 ∷ 0 ∷ []
 
@@ -29,6 +30,7 @@ pub record TooFewIterations : Type 0 where
 abbrev pub twoFaced : ℕ → List ℕ
 twoFaced m = set (set (silent 3) (place3 3 2 0 2) 5) (place3 3 2 1 2) 7
 
+-- rows 10, 20; box 2 is faulty
 abbrev pub two : List ℕ
 two = 10 ∷ 20 ∷ 0 ∷ []
 
@@ -54,6 +56,7 @@ pub record TooSmall : Type 0 where
   pub vote0 : voted 3 1 4 two (replicate 3 0) wavering 0 2 ≡ 5
   pub vote1 : voted 3 1 4 two (replicate 3 0) wavering 1 2 ≡ 7
 
+-- each of the three bounds is needed
 pub record BoundsNeeded : Type 0 where
   pub too-few-iterations : TooFewIterations
   pub too-many-faulty : TooManyFaulty

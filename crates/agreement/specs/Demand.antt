@@ -41,10 +41,11 @@ module _ (n t faulty : ℕ) (rows : List ℕ) (tables : ℕ → List ℕ) where
   abbrev pub reply : ℕ → Next
   reply m = after (startReply n t faulty rows) tables m
 
-  -- what the boxes hold after m iterations
+  -- the rows of the boxes after m iterations
   abbrev pub rowsAfter : ℕ → List ℕ
   rowsAfter m = reply m .run .rows
 
+  -- the lists of the boxes after m iterations
   abbrev pub listsAfter : ℕ → List ℕ
   listsAfter m = reply m .run .lists
 
@@ -64,10 +65,11 @@ module _ (n t faulty : ℕ) (rows : List ℕ) (tables : ℕ → List ℕ) where
   abbrev pub Valid : Type 0
   Valid = (v : ℕ) → AllHold n faulty rows v → (m : ℕ) → m ≤ iterations t → AllHold n faulty (rowsAfter m) v
 
-  -- no sound box is ever on a sound box's list, and no sound box's row is ever 0
+  -- no sound box is ever on a sound box's list
   abbrev pub NeverListed : Type 0
   NeverListed = (m : ℕ) → m ≤ iterations t → NoSoundListed n faulty (listsAfter m)
 
+  -- no sound box's row is ever 0
   abbrev pub NeverZero : Type 0
   NeverZero = (m : ℕ) → m ≤ iterations t → SoundRowsNotZero n faulty (rowsAfter m)
 

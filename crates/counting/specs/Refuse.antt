@@ -7,6 +7,7 @@ use mathlib.Core.List.{List, [], _∷_}
 pub data Refusal : Type 0 where
   refuse : ℕ → Bool → Refusal
 
+-- the number of the first test that holds, or 0
 unfoldable pub firstOf : List Refusal → ℕ
 firstOf [] = 0
 firstOf (Refusal.refuse number test ∷ rest) = cond test number (firstOf rest)

@@ -14,12 +14,15 @@ use Rattle.tally.specs.Tally.{voteOf, confidenceOf, gradedRow}
 unfoldable pub place1 : ℕ → ℕ → ℕ → ℕ
 place1 n sender receiver = sender * n + receiver
 
+-- a row of step 2 or 3, by sender, receiver and leader, where the step's rows begin at base
 unfoldable pub placeFrom : ℕ → ℕ → ℕ → ℕ → ℕ → ℕ
 placeFrom base n sender receiver leader = base + ((sender * n + receiver) * n + leader)
 
+-- step 2's rows begin behind the n² of step 1
 unfoldable pub place2 : ℕ → ℕ → ℕ → ℕ → ℕ
 place2 n = placeFrom (n * n) n
 
+-- step 3's rows begin behind the n³ of step 2
 unfoldable pub place3 : ℕ → ℕ → ℕ → ℕ → ℕ
 place3 n = placeFrom (n * n + n * n * n) n
 
@@ -57,10 +60,11 @@ module _ (n t faulty : ℕ) (rows lists table : List ℕ) where
   unfoldable pub column3 : ℕ → ℕ → List ℕ
   column3 i k = build n (λ j. heard3 i j k)
 
-  -- step 4: the confidence of box i in leader k, and the row with it
+  -- step 4: the confidence of box i in leader k
   unfoldable pub confidence : ℕ → ℕ → ℕ
   confidence i k = confidenceOf t (column3 i k)
 
+  -- step 4: the row that box i gives leader k with it
   unfoldable pub gradeRow : ℕ → ℕ → ℕ
   gradeRow i k = gradedRow t (column3 i k)
 

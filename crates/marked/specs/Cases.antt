@@ -48,6 +48,7 @@ abbrev pub tablesOfS : ℕ → List ℕ
 tablesOfS zero = liesOfS
 tablesOfS (suc m) = silent 4
 
+-- case S after m iterations: n = 4, t = 1, box 4 faulty, rows 10, 20, 30
 abbrev pub caseS : ℕ → Next
 caseS = after (startReply 4 1 8 (10 ∷ 20 ∷ 30 ∷ 0 ∷ [])) tablesOfS
 
@@ -66,6 +67,7 @@ gradeBy t support others =
 abbrev pub voteBy : ℕ → List ℕ → List ℕ
 voteBy t rows = voteReply rows t .refusal ∷ voteReply rows t .row ∷ []
 
+-- the marked cases, in the document's order
 abbrev pub marked : List Case
 marked =
     -- case S: messages 100, then 84 more; all but box 2 hold 10 after iteration 1, all after iteration 2

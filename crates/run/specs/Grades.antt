@@ -10,6 +10,7 @@ use Rattle.gradecast.specs.Steps.{gradeRow, confidence}
 use Rattle.gradecast.specs.Cast.{ofSound, cells}
 use Rattle.run.specs.declared.Run.{Run}
 
+-- rows and confidences are what the sound boxes found with this table
 pub record GradesOf (s : Run) (table rows confidences : List ℕ) : Type 0 where
   pub found-rows : rows ≡ cells (s .n) (ofSound (s .faulty) (gradeRow (s .n) (s .t) (s .faulty) (s .rows) (s .lists) table))
   pub found-confidences :

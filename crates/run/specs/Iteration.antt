@@ -16,10 +16,11 @@ unfoldable pub entry : ℕ → ℕ → (ℕ → ℕ) → ℕ → ℕ
 entry n faulty f i = cond (ltb i n && sound faulty i) (f i) 0
 
 module _ (s : Run) (table : List ℕ) where
-  -- step 4 by box i: the rows and the confidences of leaders 1 to n
+  -- step 4 by box i: the rows of leaders 1 to n
   unfoldable pub gradedRows : ℕ → List ℕ
   gradedRows i = build (s .n) (λ k. gradeRow (s .n) (s .t) (s .faulty) (s .rows) (s .lists) table i k)
 
+  -- step 4 by box i: the confidences of leaders 1 to n
   unfoldable pub confidences : ℕ → List ℕ
   confidences i = build (s .n) (λ k. confidence (s .n) (s .t) (s .faulty) (s .rows) (s .lists) table i k)
 

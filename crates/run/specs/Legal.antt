@@ -7,6 +7,7 @@ use Rattle.sizes.specs.Sizes.{outside, tooMany, stray, soundZero}
 use Rattle.run.specs.declared.Run.{Run}
 use Rattle.run.specs.State.{badPlace, tooManySent}
 
+-- none of the tests of the state itself holds
 pub record Legal (s : Run) : Type 0 where
   pub pass4 : outside (s .n) ≡ false
   pub pass5 : tooMany (s .n) (s .t) ≡ false

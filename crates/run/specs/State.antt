@@ -18,6 +18,7 @@ use Rattle.run.specs.Iteration.{entry, nextRun}
 unfoldable pub startRow : ℕ → ℕ → List ℕ → ℕ → ℕ
 startRow n faulty rows = entry n faulty (λ k. getD rows k 0)
 
+-- a state of zeros
 unfoldable pub zeros : Run
 zeros = record { n = 0; t = 0; faulty = 0; done = 0; sent = 0; rows = replicate 13 0; lists = replicate 13 0 }
 
@@ -26,6 +27,7 @@ unfoldable pub settingRefusal : ℕ → ℕ → ℕ → ℕ
 settingRefusal n t faulty =
     firstOf (refuse 4 (outside n) ∷ refuse 5 (tooMany n t) ∷ refuse 6 (stray n faulty) ∷ [])
 
+-- the refusals of a start: 4, 5, 6, 11, 9
 unfoldable pub startRefusal : ℕ → ℕ → ℕ → List ℕ → ℕ
 startRefusal n t faulty rows =
     firstOf
@@ -61,6 +63,7 @@ startReply n t faulty rows =
 unfoldable pub badEntry : ℕ → ℕ → ℕ → ℕ → ℕ → Bool
 badEntry n faulty k row list = cond (ltb k n && sound faulty k) (stray n list) (not (eqb row 0) || not (eqb list 0))
 
+-- refusal 14 at place k of a state
 unfoldable pub badPlace : Run → ℕ → Bool
 badPlace s k = badEntry (s .n) (s .faulty) k (getD (s .rows) k 0) (getD (s .lists) k 0)
 
@@ -73,6 +76,7 @@ unfoldable pub lateRefusal : Run → ℕ
 lateRefusal s =
     firstOf (refuse 12 (ltb (s .t) (s .done)) ∷ refuse 14 (any 13 (badPlace s) || tooManySent s) ∷ [])
 
+-- the refusals of an iteration: 4, 5, 6, 9, 11, 12, 14
 unfoldable pub iterateRefusal : Run → List ℕ → ℕ
 iterateRefusal s table =
     firstOf

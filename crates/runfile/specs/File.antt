@@ -19,12 +19,15 @@ marked bytes = eqb (getD bytes 0 0) 72 && eqb (getD bytes 1 0) 78 && eqb (getD b
 unfoldable pub versionOf : List ℕ → ℕ
 versionOf bytes = number bytes 3 2
 
+-- n in 8 bits
 unfoldable pub nOf : List ℕ → ℕ
 nOf bytes = getD bytes 5 0
 
+-- t in 8 bits, as it is written
 unfoldable pub tByte : List ℕ → ℕ
 tByte bytes = getD bytes 6 0
 
+-- faulty set in 16 bits
 unfoldable pub faultyOf : List ℕ → ℕ
 faultyOf bytes = number bytes 7 2
 
@@ -44,6 +47,7 @@ rowFrom at bytes k = number bytes (at + 8 * k) 8
 unfoldable pub headingRow : List ℕ → ℕ → ℕ
 headingRow = rowFrom 9
 
+-- row k of a table
 unfoldable pub tableRow : List ℕ → ℕ → ℕ
 tableRow = rowFrom 0
 

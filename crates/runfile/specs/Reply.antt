@@ -26,6 +26,7 @@ headingTests bytes room =
     refuse 10 (ltb room (nOf bytes)) ∷
     []
 
+-- the heading reader's refusal, or 0
 unfoldable pub headingRefusal : List ℕ → ℕ → ℕ
 headingRefusal bytes room = firstOf (headingTests bytes room)
 
@@ -37,6 +38,7 @@ tableTests n bytes room =
     refuse 10 (ltb room (tableRows n)) ∷
     []
 
+-- the table reader's refusal, or 0
 unfoldable pub tableRefusal : ℕ → List ℕ → ℕ → ℕ
 tableRefusal n bytes room = firstOf (tableTests n bytes room)
 
@@ -51,6 +53,7 @@ headingOf bytes =
       faulty = faultyOf bytes;
     }
 
+-- a refused heading gives 0 for all but the refusal's number
 unfoldable pub nothingRead : ℕ → Heading
 nothingRead refusal = record { refusal = refusal; version = 0; n = 0; t = 0; faulty = 0 }
 

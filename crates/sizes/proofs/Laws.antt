@@ -61,13 +61,23 @@ unfolding stray
 lt-within n set h = lt-leb (2 ^ n) set h
 
 -- outside 1 to 13 the tables by n give 0
-pub by-n-outside : (formula : ℕ → ℕ) (n : ℕ) → outside n ≡ true → byN formula n ≡ 0
+by-n-outside : (formula : ℕ → ℕ) (n : ℕ) → outside n ≡ true → byN formula n ≡ 0
 unfolding byN
 by-n-outside formula n h = cond-true 0 (formula n) h
+
+pub by-n-low : (formula : ℕ → ℕ) (n : ℕ) → n < 1 → 0 ≡ byN formula n
+by-n-low formula n h = sym (by-n-outside formula n (outside-low n h))
+
+pub by-n-high : (formula : ℕ → ℕ) (n : ℕ) → 13 < n → 0 ≡ byN formula n
+by-n-high formula n h = sym (by-n-outside formula n (outside-high n h))
 
 pub by-n-inside : (formula : ℕ → ℕ) (n : ℕ) → outside n ≡ false → byN formula n ≡ formula n
 unfolding byN
 by-n-inside formula n h = cond-false 0 (formula n) h
+
+-- a table by n has one reply to each n
+pub by-n-unique : (formula : ℕ → ℕ) (n : ℕ) {r s : ℕ} → r ≡ byN formula n → s ≡ byN formula n → r ≡ s
+by-n-unique formula n p q = p ∙ sym q
 
 -- does a table of 13 numbers differ from the formula at place k?
 abbrev pub wrong : List ℕ → (ℕ → ℕ) → ℕ → Bool

@@ -42,9 +42,11 @@ leadOf xs row = record { row = row; support = support xs row }
 unfoldable pub unless : ℕ → ℕ → ℕ
 unless refusal answer = cond (eqb refusal 0) answer 0
 
+-- a vote's whole reply: refusal and row
 unfoldable pub voteReply : List ℕ → ℕ → Voted
 voteReply xs t = record { refusal = voteRefusal t xs; row = unless (voteRefusal t xs) (voteOf t xs) }
 
+-- a grade's whole reply: refusal, row and confidence
 unfoldable pub gradeReply : List ℕ → ℕ → Graded
 gradeReply xs t =
     record {
@@ -53,6 +55,7 @@ gradeReply xs t =
       confidence = unless (gradeRefusal (length xs) t) (confidenceOf t xs);
     }
 
+-- a choice's whole reply: refusal, row and the number of confidence-2 leaders
 unfoldable pub choiceReply : List ℕ → List ℕ → Chosen
 choiceReply rows confidences =
     record {
