@@ -64,6 +64,15 @@ front-turn n f xs ys {v} l e h =
     ∙ ap (λ (x : ℕ). build n f ++ x ∷ drop (suc n) xs) h
     ∙ sym (append-snoc (build n f) (f n) (drop (suc n) xs)))
 
+-- a place that holds f's number already
+pub front-stays : (n : ℕ) (f : ℕ → ℕ) (xs : List ℕ) → n < length xs → getD xs n 0 ≡ f n → front n f xs ≡ front (n + 1) f xs
+unfolding front build
+front-stays n f xs l h =
+    rw add-one
+    (ap (λ (zs : List ℕ). build n f ++ zs) (drop-cons xs n 0 l)
+    ∙ ap (λ (x : ℕ). build n f ++ x ∷ drop (suc n) xs) h
+    ∙ sym (append-snoc (build n f) (f n) (drop (suc n) xs)))
+
 pub front-length : (n : ℕ) (f : ℕ → ℕ) (xs : List ℕ) → n ≤ length xs → length (front n f xs) ≡ length xs
 unfolding front
 front-length n f xs l =

@@ -306,10 +306,3 @@ pub counted-whole : {m n : ℕ} (p : ℕ → Bool) {c : ℕ} → m ≡ n → c �
 counted-whole {n = n} p {c} e h =
     let is : c ≡ count n p = h ∙ ap (λ (k : ℕ). count k p) e in
     (is, omega (arith, count-le n p))
-
--- counted row by row or column by column, it is the same
-pub count-swap : (m n : ℕ) (p : ℕ → ℕ → Bool) → sum m (λ a. count n (p a)) ≡ sum n (λ b. count m (λ a. p a b))
-unfolding sum count
-count-swap zero n p = sym (sum-const n 0 ∙ mul-zero n)
-count-swap (suc m) n p =
-    ap₂ _+_ (count-swap m n p) (count-sum n (p m)) ∙ sym (sum-add n (λ b. count m (λ a. p a b)) (λ b. cond (p m b) 1 0))

@@ -1,55 +1,136 @@
--- A column that is read from 169 cells is the column of the document: the cell at k * n + j is what box j sends about leader k
--- where j is sound, and a faulty box's cell is never heard.
+-- What a box hears in step 2 or 3. It is put down sender by sender, each sender's rows one below the other, so that a leader's
+-- column is a part of its own. That column is the document's: the cell at j * n + k is what box j sends about leader k where j is
+-- sound, and a faulty box's cell is never heard.
 -- Assumes nothing.
-use mathlib.Core.Path.{_≡_, ap, _∙_}
+use mathlib.Core.Path.{_≡_, refl, sym, ap, ap₂, _∙_}
 use mathlib.Core.List.{List}
-use Prim.Native.Nat.{ℕ, _+_, _*_, _≤_, _<_}
+use mathlib.Core.Logic.{⊎-elim}
+use mathlib.Core.Bool.{false}
+use Prim.Native.Nat.{ℕ, _+_, _-_, _*_, _/_, _%_, _≤_, _<_}
 use native.Mathlib.Omega.{arith}
-use lib.ListN.{length, getD, take, replicate}
-use lib.Seq.{length-take-le}
-use Rattle.counting.specs.Count.{build, front}
-use Rattle.counting.proofs.Build.{front-take, front-length, build-ext}
+use lib.Arith.{digits-div, digits-mod}
+use lib.ListN.{length, getD, take, drop, set, length-drop}
+use lib.Seq.{getD-set-same, getD-set-other, length-take-le}
+use Rattle.counting.specs.Count.{build}
+use Rattle.counting.specs.Sets.{member}
+use Rattle.counting.proofs.Build.{build-ext}
+use Rattle.counting.proofs.Count.{at-or-below}
+use Rattle.tally.specs.Tally.{voteOf, confidenceOf, gradedRow}
+use Rattle.tally.specs.Reply.{voteReply, gradeReply}
 use Rattle.tally.proofs.Replies.{Sized}
-use Rattle.gradecast.specs.Steps.{placeFrom, place2, place3, sends, hears, heard1, heard2, column2, voted, heard3, column3}
-use Rattle.gradecast.specs.Cast.{byLeader, cells, heardFrom}
-use Rattle.gradecast.proofs.Cells.{cells-at}
-use Rattle.gradecast.proofs.Sound.{sends-sound}
+use Rattle.tally.proofs.Taken.{vote-row, grade-row, grade-confidence}
+use Rattle.gradecast.specs.Steps.{placeFrom, place2, place3, sends, hears, heard1, heard2, column2, voted, heard3, column3, gradeRow, confidence}
+use Rattle.gradecast.specs.Cast.{ofSound, cells, heardFrom, HeardTo, columnOf, SaidSecond, SaidThird}
+use Rattle.gradecast.proofs.Cells.{cells-at, part-fits, part-built}
+use Rattle.gradecast.proofs.Places.{two-digits}
+use Rattle.gradecast.proofs.Sound.{of-sound, sends-sound}
+
+-- two digits in base n are told by their number
+digits-high : {n : ℕ} (a b c d : ℕ) → b < n → d < n → a * n + b ≡ c * n + d → a ≡ c
+digits-high {n} a b c d hb hd e = sym (digits-div a hb) ∙ ap (λ (m : ℕ). m / n) e ∙ digits-div c hd
+
+digits-low : {n : ℕ} (a b c d : ℕ) → b < n → d < n → a * n + b ≡ c * n + d → b ≡ d
+digits-low {n} a b c d hb hd e = sym (digits-mod a hb) ∙ ap (λ (m : ℕ). m % n) e ∙ digits-mod c hd
+
+module _ (base n list faulty : ℕ) (table said : List ℕ) (i : ℕ) where
+  -- one more row is put down
+  pub heard-turn : (j k : ℕ) (heard : List ℕ) {v : ℕ} → n ≤ 13 → k < n → j < n → length heard ≡ 169 →
+      HeardTo base n list faulty table said i (j * n + k) heard → v ≡ heardFrom base n list faulty table said i k j →
+      HeardTo base n list faulty table said i (j * n + (k + 1)) (set heard (k * n + j) v)
+  heard-turn j k heard {v} high hk hj size h e =
+      λ a b ha hb l. ⊎-elim (same a b ha hb) (other a b ha hb) (at-or-below (b * n + a) (j * n + k) (omega arith))
+    where
+      same : (a b : ℕ) → a < n → b < n → b * n + a ≡ j * n + k →
+          getD (set heard (k * n + j) v) (a * n + b) 0 ≡ heardFrom base n list faulty table said i a b
+      same a b ha hb q =
+          ap₂ (λ (x y : ℕ). getD (set heard (k * n + j) v) (x * n + y) 0) (digits-low b a j k ha hk q) (digits-high b a j k ha hk q)
+          ∙ getD-set-same heard (k * n + j) v 0 (omega (arith, part-fits high hk))
+          ∙ e
+          ∙ sym (ap₂ (heardFrom base n list faulty table said i) (digits-low b a j k ha hk q) (digits-high b a j k ha hk q))
+
+      other : (a b : ℕ) → a < n → b < n → b * n + a < j * n + k →
+          getD (set heard (k * n + j) v) (a * n + b) 0 ≡ heardFrom base n list faulty table said i a b
+      other a b ha hb l =
+          getD-set-other heard (k * n + j) (a * n + b) v 0
+          (λ q. absurd (omega (arith, ap₂ (λ (x y : ℕ). x * n + y) (digits-low a b k j hb hj q) (digits-high a b k j hb hj q))))
+          ∙ h a b ha hb l
+
+  -- a leader's column
+  pub column-heard : (heard : List ℕ) → n ≤ 13 → length heard ≡ 169 → HeardTo base n list faulty table said i (n * n) heard →
+      (k : ℕ) → k < n → columnOf n heard k ≡ build n (heardFrom base n list faulty table said i k)
+  unfolding columnOf
+  column-heard heard high size h k hk =
+      part-built n k (heardFrom base n list faulty table said i k) heard high hk size
+      (λ j hj. h k j hk hj (two-digits hj hk))
+
+-- vote and grade over a leader's column, which the code takes from k * n to k * n + n
+module _ {n k : ℕ} (t : ℕ) (low : 1 ≤ n) (high : n ≤ 13) (few : 3 * t < n) (leader : k < n) (heard : List ℕ) (size : length heard ≡ 169) where
+  -- the part that the code takes
+  abbrev part : List ℕ
+  part = take (k * n + n - k * n) (drop (k * n) heard)
+
+  part-column : part ≡ columnOf n heard k
+  unfolding columnOf
+  part-column = let whole : k * n + n - k * n ≡ n = omega arith in ap (λ (m : ℕ). take m (drop (k * n) heard)) whole
+
+  fits : Sized (length (columnOf n heard k)) t
+  unfolding columnOf
+  fits =
+      let m = length-take-le n (drop (k * n) heard) (omega (arith, length-drop (k * n) heard, part-fits high leader)) in
+      record { low = omega arith; high = omega arith; few = omega arith }
+
+  pub part-vote : voteReply part t .row ≡ voteOf t (columnOf n heard k)
+  part-vote = ap (λ (xs : List ℕ). voteReply xs t .row) part-column ∙ vote-row (columnOf n heard k) t fits
+
+  pub part-row : gradeReply part t .row ≡ gradedRow t (columnOf n heard k)
+  part-row = ap (λ (xs : List ℕ). gradeReply xs t .row) part-column ∙ grade-row (columnOf n heard k) t fits
+
+  pub part-confidence : gradeReply part t .confidence ≡ confidenceOf t (columnOf n heard k)
+  part-confidence = ap (λ (xs : List ℕ). gradeReply xs t .confidence) part-column ∙ grade-confidence (columnOf n heard k) t fits
 
 module _ (n faulty : ℕ) (lists table said : List ℕ) (i k : ℕ) (leader : k < n) where
   -- for any step: said holds what the sound boxes send
-  column-is : (base : ℕ) (f : ℕ → ℕ → ℕ) → said ≡ cells n (byLeader faulty f) →
-      take n (front n (heardFrom base n (getD lists i 0) faulty table said i k) (replicate 13 0)) ≡
+  column-is : (base : ℕ) (f : ℕ → ℕ → ℕ) → said ≡ cells n (ofSound faulty f) →
+      build n (heardFrom base n (getD lists i 0) faulty table said i k) ≡
       build n (λ j. hears (getD lists i 0) j (sends faulty table j (placeFrom base n j i k) (f j k)))
-  unfolding heardFrom byLeader
+  unfolding heardFrom
   column-is base f e =
-      front-take n (heardFrom base n (getD lists i 0) faulty table said i k) (replicate 13 0)
-      ∙ build-ext n (heardFrom base n (getD lists i 0) faulty table said i k)
+      build-ext n (heardFrom base n (getD lists i 0) faulty table said i k)
       (λ j. hears (getD lists i 0) j (sends faulty table j (placeFrom base n j i k) (f j k)))
       (λ j l.
       ap (λ (m : ℕ). hears (getD lists i 0) j (sends faulty table j (placeFrom base n j i k) m))
-      (ap (λ (xs : List ℕ). getD xs (k * n + j) 0) e ∙ cells-at n (byLeader faulty f) k j leader l)
+      (ap (λ (xs : List ℕ). getD xs (j * n + k) 0) e ∙ cells-at n (ofSound faulty f) j k l leader)
       ∙ ap (hears (getD lists i 0) j) (sends-sound faulty table f j k (placeFrom base n j i k)))
 
-  pub column-2 : (rows : List ℕ) → said ≡ cells n (byLeader faulty (heard1 n faulty rows lists table)) →
-      take n (front n (heardFrom (n * n) n (getD lists i 0) faulty table said i k) (replicate 13 0)) ≡
-      column2 n faulty rows lists table i k
+  column-2 : (rows : List ℕ) → SaidSecond n faulty lists table said rows →
+      build n (heardFrom (n * n) n (getD lists i 0) faulty table said i k) ≡ column2 n faulty rows lists table i k
   unfolding column2 heard2 place2
   column-2 rows e = column-is (n * n) (heard1 n faulty rows lists table) e
 
-  pub column-3 : (t : ℕ) (rows : List ℕ) → said ≡ cells n (byLeader faulty (voted n t faulty rows lists table)) →
-      take n (front n (heardFrom (n * n + n * n * n) n (getD lists i 0) faulty table said i k) (replicate 13 0)) ≡
-      column3 n t faulty rows lists table i k
+  column-3 : (t : ℕ) (rows : List ℕ) → SaidThird n t faulty lists table said rows →
+      build n (heardFrom (n * n + n * n * n) n (getD lists i 0) faulty table said i k) ≡ column3 n t faulty rows lists table i k
   unfolding column3 heard3 place3
   column-3 t rows e = column-is (n * n + n * n * n) (voted n t faulty rows lists table) e
 
--- an array of 13 that holds a column at its front
-module _ {n : ℕ} (f : ℕ → ℕ) {xs : List ℕ} (high : n ≤ 13) (e : xs ≡ front n f (replicate 13 0)) where
-  pub column-length : length xs ≡ 13
-  column-length = ap length e ∙ front-length n f (replicate 13 0) high
+-- what a sound box makes of the columns that it heard
+module _ (n t faulty : ℕ) (lists table said heard : List ℕ) (i : ℕ) (high : n ≤ 13) (size : length heard ≡ 169) (is-sound : member faulty i ≡ false) (rows : List ℕ) where
+  pub votes-heard : HeardTo (n * n) n (getD lists i 0) faulty table said i (n * n) heard → SaidSecond n faulty lists table said rows →
+      (k : ℕ) → k < n → voteOf t (columnOf n heard k) ≡ ofSound faulty (voted n t faulty rows lists table) i k
+  unfolding voted
+  votes-heard h e k l =
+      ap (voteOf t) (column-heard (n * n) n (getD lists i 0) faulty table said i heard high size h k l ∙ column-2 n faulty lists table said i k l rows e)
+      ∙ sym (of-sound faulty (voted n t faulty rows lists table) i k is-sound)
 
-  pub column-part : length (take n xs) ≡ n
-  column-part = length-take-le n xs (omega (arith, column-length))
+  module _ (h : HeardTo (n * n + n * n * n) n (getD lists i 0) faulty table said i (n * n) heard) (e : SaidThird n t faulty lists table said rows) where
+    third : (k : ℕ) → k < n → columnOf n heard k ≡ column3 n t faulty rows lists table i k
+    third k l =
+        column-heard (n * n + n * n * n) n (getD lists i 0) faulty table said i heard high size h k l
+        ∙ column-3 n faulty lists table said i k l t rows e
 
-  pub column-sized : (t : ℕ) → 1 ≤ n → 3 * t < n → Sized (length (take n xs)) t
-  column-sized t low few =
-      record { low = omega (arith, column-part); high = omega (arith, column-part); few = omega (arith, column-part) }
+    pub rows-heard : (k : ℕ) → k < n → gradedRow t (columnOf n heard k) ≡ ofSound faulty (gradeRow n t faulty rows lists table) i k
+    unfolding gradeRow
+    rows-heard k l = ap (gradedRow t) (third k l) ∙ sym (of-sound faulty (gradeRow n t faulty rows lists table) i k is-sound)
+
+    pub confidences-heard : (k : ℕ) → k < n → confidenceOf t (columnOf n heard k) ≡ ofSound faulty (confidence n t faulty rows lists table) i k
+    unfolding confidence
+    confidences-heard k l = ap (confidenceOf t) (third k l) ∙ sym (of-sound faulty (confidence n t faulty rows lists table) i k is-sound)

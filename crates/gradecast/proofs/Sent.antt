@@ -12,11 +12,11 @@ use Rattle.sizes.proofs.Laws.{square-le}
 use Rattle.counting.specs.Count.{sum, count, build}
 use Rattle.counting.proofs.Bools.{cond-true, cond-false}
 use Rattle.counting.proofs.Build.{front-take, length-build, getD-build}
-use Rattle.counting.proofs.Count.{count-ext, count-none, count-rows, count-swap, count-sum, sum-ext, sum-add}
+use Rattle.counting.proofs.Count.{count-ext, count-none, count-rows, count-sum, sum-ext, sum-add}
 use Rattle.sizes.specs.Sizes.{sound}
 use Rattle.gradecast.specs.declared.Cast.{Cast}
 use Rattle.gradecast.specs.Steps.{heard1, voted, gradeRow, confidence, messages}
-use Rattle.gradecast.specs.Cast.{ofSound, byLeader, cells, castReply}
+use Rattle.gradecast.specs.Cast.{ofSound, cellsTo, cells, castReply}
 use Rattle.gradecast.proofs.Cells.{length-cells}
 use Rattle.gradecast.proofs.Messages.{sentByOne, messages-quick}
 
@@ -25,22 +25,21 @@ abbrev pub filled : List ℕ → ℕ
 filled xs = count (length xs) (λ k. not (eqb (getD xs k 0) 0))
 
 -- the cells of n rows of n that are not 0, row by row
-pub filled-cells : (n faulty : ℕ) (f : ℕ → ℕ → ℕ) (xs : List ℕ) → xs ≡ cells n (byLeader faulty f) →
+pub filled-cells : (n faulty : ℕ) (f : ℕ → ℕ → ℕ) (xs : List ℕ) → xs ≡ cells n (ofSound faulty f) →
     filled (take (n * n) xs) ≡ sum n (λ j. cond (sound faulty j) (count n (λ k. not (eqb (f j k) 0))) 0)
-unfolding cells byLeader ofSound
+unfolding cells cellsTo ofSound
 filled-cells n faulty f xs e =
     ap (λ (ys : List ℕ). filled (take (n * n) ys)) e
     ∙ ap filled (front-take (n * n) cell (replicate 169 0))
     ∙ ap (λ (m : ℕ). count m (λ k. not (eqb (getD (build (n * n) cell) k 0) 0))) (length-build (n * n) cell)
-    ∙ count-ext (n * n) (λ k. not (eqb (getD (build (n * n) cell) k 0) 0)) (λ q. is (q % n) (q / n))
+    ∙ count-ext (n * n) (λ k. not (eqb (getD (build (n * n) cell) k 0) 0)) (λ q. is (q / n) (q % n))
     (λ k l. ap (λ (v : ℕ). not (eqb v 0)) (getD-build (n * n) cell k 0 l))
-    ∙ count-rows n n (λ k j. is j k)
-    ∙ count-swap n n (λ k j. is j k)
+    ∙ count-rows n n is
     ∙ sum-ext n (λ j. count n (is j)) (λ j. cond (sound faulty j) (count n (λ k. not (eqb (f j k) 0))) 0)
     (λ j l. of-row j (sound faulty j) refl)
   where
     cell : ℕ → ℕ
-    cell q = byLeader faulty f (q / n) (q % n)
+    cell q = ofSound faulty f (q / n) (q % n)
 
     is : ℕ → ℕ → Bool
     is j k = not (eqb (ofSound faulty f j k) 0)
@@ -56,7 +55,7 @@ filled-cells n faulty f xs e =
 
 -- and there are n² of them
 pub length-front : (n : ℕ) (f : ℕ → ℕ → ℕ) (xs : List ℕ) → xs ≡ cells n f → length (take (n * n) xs) ≡ n * n
-unfolding cells
+unfolding cells cellsTo
 length-front n f xs e =
     ap (λ (ys : List ℕ). length (take (n * n) ys)) e
     ∙ ap length (front-take (n * n) (λ p. f (p / n) (p % n)) (replicate 169 0))
@@ -73,8 +72,8 @@ first false c = refl
 
 module _ (n t faulty : ℕ) (rows lists table second third : List ℕ) where
   -- the three counts together, n times
-  pub messages-counted : second ≡ cells n (byLeader faulty (heard1 n faulty rows lists table)) →
-      third ≡ cells n (byLeader faulty (voted n t faulty rows lists table)) →
+  pub messages-counted : second ≡ cells n (ofSound faulty (heard1 n faulty rows lists table)) →
+      third ≡ cells n (ofSound faulty (voted n t faulty rows lists table)) →
       n *
       (count n (λ j. sound faulty j && not (eqb (getD rows j 0) 0)) + filled (take (n * n) second) + filled (take (n * n) third)) ≡
       messages n t faulty rows lists table

@@ -3,10 +3,9 @@ use Prim.Native.Nat.{ℕ, _+_, _*_, _/_, _%_, _≤_, _<_}
 use mathlib.Core.Path.{_≡_}
 use mathlib.Core.Bool.{cond}
 use mathlib.Core.List.{List}
-use lib.ListN.{length, getD, replicate}
+use lib.ListN.{length, getD, take, drop, replicate}
 use Rattle.counting.specs.Count.{front}
 use Rattle.sizes.specs.Sizes.{sound, tableRows}
-use Rattle.tally.specs.declared.Graded.{Graded}
 use Rattle.gradecast.specs.declared.Cast.{Cast}
 use Rattle.gradecast.specs.Steps.{placeFrom, sends, hears, heard1, voted, confidence, gradeRow, messages}
 
@@ -14,18 +13,18 @@ use Rattle.gradecast.specs.Steps.{placeFrom, sends, hears, heard1, voted
 unfoldable pub ofSound : ℕ → (ℕ → ℕ → ℕ) → ℕ → ℕ → ℕ
 ofSound faulty f i k = cond (sound faulty i) (f i k) 0
 
--- the same, leader by leader: what box j sends about leader k in steps 2 and 3
-unfoldable pub byLeader : ℕ → (ℕ → ℕ → ℕ) → ℕ → ℕ → ℕ
-byLeader faulty f k j = ofSound faulty f j k
+-- n rows of n numbers in 169 places, of which the first q are there: f i k stands at place i * n + k
+unfoldable pub cellsTo : ℕ → ℕ → (ℕ → ℕ → ℕ) → List ℕ
+cellsTo q n f = front q (λ p. f (p / n) (p % n)) (replicate 169 0)
 
--- n rows of n numbers in 169 places: f i k stands at place i * n + k
+-- all of them
 unfoldable pub cells : ℕ → (ℕ → ℕ → ℕ) → List ℕ
-cells n f = front (n * n) (λ p. f (p / n) (p % n)) (replicate 169 0)
+cells n f = cellsTo (n * n) n f
 
 -- what a box i with this list hears from box j about leader k, where what sound boxes send stands in 169 places
 unfoldable pub heardFrom : ℕ → ℕ → ℕ → ℕ → List ℕ → List ℕ → ℕ → ℕ → ℕ → ℕ
 heardFrom base n list faulty table said i k j =
-    hears list j (sends faulty table j (placeFrom base n j i k) (getD said (k * n + j) 0))
+    hears list j (sends faulty table j (placeFrom base n j i k) (getD said (j * n + k) 0))
 
 -- what steps 1 to 4 may count on: the call was not refused by 4 or 11
 pub record Ready (n : ℕ) (table : List ℕ) : Type 0 where
@@ -33,37 +32,59 @@ pub record Ready (n : ℕ) (table : List ℕ) : Type 0 where
   pub high : n ≤ 13
   pub whole : length table ≡ tableRows n
 
--- box i and leader k are among the n
+-- boxes i and k, or box i and leader k, are among the n
 pub record Among (n i k : ℕ) : Type 0 where
   pub is-box : i < n
   pub is-leader : k < n
 
+-- what box i hears, sender by sender, of which the first q are there: from j about leader k at place k * n + j
+module _ (base n list faulty : ℕ) (table said : List ℕ) (i : ℕ) where
+  abbrev pub HeardTo : ℕ → List ℕ → Type 0
+  HeardTo q heard =
+      (k j : ℕ) → k < n → j < n → j * n + k < q → getD heard (k * n + j) 0 ≡ heardFrom base n list faulty table said i k j
+
+-- where the cells before box i's are there, the first m of its own, which g gives, are put behind them
+abbrev pub PutTo : ℕ → ℕ → ℕ → (ℕ → ℕ) → List ℕ → List ℕ → Type 0
+PutTo n i m g out last =
+    (f : ℕ → ℕ → ℕ) → ((k : ℕ) → k < n → f i k ≡ g k) → out ≡ cellsTo (i * n) n f → last ≡ cellsTo (i * n + m) n f
+
+-- the column of leader k in what a box hears
+unfoldable pub columnOf : ℕ → List ℕ → ℕ → List ℕ
+columnOf n heard k = take n (drop (k * n) heard)
+
+-- said is what the sound boxes send in step 2, from these rows
+abbrev pub SaidSecond : ℕ → ℕ → List ℕ → List ℕ → List ℕ → List ℕ → Type 0
+SaidSecond n faulty lists table said rows = said ≡ cells n (ofSound faulty (heard1 n faulty rows lists table))
+
+-- said is what they send in step 3
+abbrev pub SaidThird : ℕ → ℕ → ℕ → List ℕ → List ℕ → List ℕ → List ℕ → Type 0
+SaidThird n t faulty lists table said rows = said ≡ cells n (ofSound faulty (voted n t faulty rows lists table))
+
 module _ (n t faulty : ℕ) (lists table said : List ℕ) where
-  -- said is what the sound boxes send in step 2, from some rows; then r is what box i sends in step 3 about leader k
-  abbrev pub VoteCell : ℕ → ℕ → ℕ → Type 0
-  VoteCell i k r =
-      (rows : List ℕ) → said ≡ cells n (byLeader faulty (heard1 n faulty rows lists table)) →
-      r ≡ ofSound faulty (voted n t faulty rows lists table) i k
+  -- the votes of box i are put to the cells
+  abbrev pub PutVotes : ℕ → List ℕ → List ℕ → Type 0
+  PutVotes i out last =
+      (rows : List ℕ) → SaidSecond n faulty lists table said rows → PutTo n i n (ofSound faulty (voted n t faulty rows lists table) i) out last
 
-  -- the same of all cells
+  -- all votes are there
   abbrev pub AllVotes : List ℕ → Type 0
-  AllVotes r =
-      (rows : List ℕ) → said ≡ cells n (byLeader faulty (heard1 n faulty rows lists table)) →
-      r ≡ cells n (byLeader faulty (voted n t faulty rows lists table))
+  AllVotes last = (rows : List ℕ) → SaidSecond n faulty lists table said rows → last ≡ cells n (ofSound faulty (voted n t faulty rows lists table))
 
-  -- said is what the sound boxes send in step 3; then r is the grade of box i for leader k
-  abbrev pub GradeCell : ℕ → ℕ → Graded → Type 0
-  GradeCell i k r =
-      (rows : List ℕ) → said ≡ cells n (byLeader faulty (voted n t faulty rows lists table)) →
-      (r .row ≡ ofSound faulty (gradeRow n t faulty rows lists table) i k) ×
-      (r .confidence ≡ ofSound faulty (confidence n t faulty rows lists table) i k)
+  -- the grades of box i are put to the cells
+  abbrev pub PutRows : ℕ → List ℕ → List ℕ → Type 0
+  PutRows i out last =
+      (rows : List ℕ) → SaidThird n t faulty lists table said rows → PutTo n i n (ofSound faulty (gradeRow n t faulty rows lists table) i) out last
 
-  -- the same of all cells
-  abbrev pub AllGrades : Cast → Type 0
-  AllGrades r =
-      (rows : List ℕ) → said ≡ cells n (byLeader faulty (voted n t faulty rows lists table)) →
-      (r .rows ≡ cells n (ofSound faulty (gradeRow n t faulty rows lists table))) ×
-      (r .confidences ≡ cells n (ofSound faulty (confidence n t faulty rows lists table)))
+  abbrev pub PutConfidences : ℕ → List ℕ → List ℕ → Type 0
+  PutConfidences i out last =
+      (rows : List ℕ) → SaidThird n t faulty lists table said rows → PutTo n i n (ofSound faulty (confidence n t faulty rows lists table) i) out last
+
+  -- all grades are there
+  abbrev pub AllGrades : List ℕ → List ℕ → Type 0
+  AllGrades last-rows last-confidences =
+      (rows : List ℕ) → SaidThird n t faulty lists table said rows →
+      (last-rows ≡ cells n (ofSound faulty (gradeRow n t faulty rows lists table))) ×
+      (last-confidences ≡ cells n (ofSound faulty (confidence n t faulty rows lists table)))
 
 -- the whole reply of steps 1 to 4
 unfoldable pub castReply : ℕ → ℕ → ℕ → List ℕ → List ℕ → List ℕ → Cast

@@ -4,19 +4,22 @@ ghost use mathlib.Core.Bool.{cond, not, _&&_};
 ghost use Prim.Native.Nat.{_+_, _*_, _<_, _≤_};
 ghost use lib.Dec.{eqb};
 ghost use lib.ListN.{length, getD, replicate};
-ghost use Rattle.counting.specs.Count.{count, front};
+ghost use Rattle.counting.specs.Count.{count};
 ghost use Rattle.sizes.specs.Sizes.{sound, tableRows};
+ghost use Rattle.tally.specs.Tally.{voteOf, confidenceOf, gradedRow};
 ghost use Rattle.gradecast.specs.Steps.{place1, placeFrom, sends, hears, heard1};
 ghost use Rattle.gradecast.specs.Cast.{
   Ready,
   Among,
   ofSound,
-  byLeader,
   cells,
-  heardFrom,
-  VoteCell,
+  columnOf,
+  HeardTo,
+  PutTo,
+  PutVotes,
   AllVotes,
-  GradeCell,
+  PutRows,
+  PutConfidences,
   AllGrades,
   castReply,
 };
@@ -59,43 +62,45 @@ fn place_from(base: usize, n: usize, sender: usize, receiver: usize, leader: usi
     base + ((sender * n + receiver) * n + leader)
 }
 
-// V[k] of box i, which a sound box sends in step 2; 0 for a faulty box.
-fn step1_cell(
+// Step 1 for box i: V, which a sound box sends in step 2. A faulty box's cells stay 0.
+fn step1_box(
     n: usize,
     faulty: u16,
     rows: &[u64; 13],
     lists: &[u16; 13],
     table: &[u64],
     i: usize,
-    k: usize,
-) -> u64
-    requires { ⌜ Ready n (now table) × Among n i k ⌝ }
-    ensures { λ r. ⌜ r ≡ ofSound faulty (heard1 n faulty (now (rows .entry)) (now (lists .entry)) (now (table .entry))) i k ⌝ }
+    out: &mut [u64],
+)
+    requires { ⌜ Ready n (now table) × (i < n) × (length (now out) ≡ 169) ⌝ }
+    ensures { λ r. ⌜ PutTo n i n (ofSound faulty (heard1 n faulty (now (rows .entry)) (now (lists .entry)) (now (table .entry))) i) (now (out .entry)) (now (out .exit)) ⌝ }
 {
     if sizes::is_member(faulty, i) {
-        return 0;
+        return;
     }
-    let place = place_of_first(n, k, i);
-    hear(lists[i], faulty, table, k, place, rows[k])
+    let mut k: usize = 0;
+    while k < n {
+        let place = place_of_first(n, k, i);
+        out[i * n + k] = hear(lists[i], faulty, table, k, place, rows[k]);
+        k += 1;
+    }
 }
 
-// Step 1: V of every sound box, which it sends in step 2, leader by leader.
-fn step1(n: usize, faulty: u16, rows: &[u64; 13], lists: &[u16; 13], table: &[u64]) -> [u64; 169]
-    requires { ⌜ Ready n (now table) ⌝ }
-    ensures { λ r. ⌜ r ≡ cells n (byLeader faulty (heard1 n faulty (now (rows .entry)) (now (lists .entry)) (now (table .entry)))) ⌝ }
+// Step 1: V of every sound box, put to cells that are 0.
+fn step1(n: usize, faulty: u16, rows: &[u64; 13], lists: &[u16; 13], table: &[u64], out: &mut [u64])
+    requires { ⌜ Ready n (now table) × (now out ≡ replicate 169 0) ⌝ }
+    ensures { λ r. ⌜ now (out .exit) ≡ cells n (ofSound faulty (heard1 n faulty (now (rows .entry)) (now (lists .entry)) (now (table .entry)))) ⌝ }
 {
-    let mut out = [0u64; 169];
-    let size = n * n;
-    let mut p: usize = 0;
-    while p < size {
-        out[p] = step1_cell(n, faulty, rows, lists, table, p % n, p / n);
-        p += 1;
+    let mut i: usize = 0;
+    while i < n {
+        step1_box(n, faulty, rows, lists, table, i, out);
+        i += 1;
     }
-    out
 }
 
-// What box i with this list hears from all boxes about leader k, where sound boxes send said and the table's rows begin at base.
-fn column(
+// What box i with this list hears from box j about every leader, where sound boxes send said and the table's rows begin at base.
+// Whether j is listed or faulty does not change from leader to leader, so the leaders are gone through inside.
+fn hear_from(
     base: usize,
     n: usize,
     list: u16,
@@ -103,23 +108,57 @@ fn column(
     table: &[u64],
     said: &[u64; 169],
     i: usize,
-    k: usize,
-) -> [u64; 13]
-    requires { ⌜ Ready n (now table) × Among n i k × (base + n * n * n ≤ tableRows n) ⌝ }
-    ensures { λ r. ⌜ r ≡ front n (heardFrom base n list faulty (now (table .entry)) (now (said .entry)) i k) (replicate 13 0) ⌝ }
+    j: usize,
+    heard: &mut [u64],
+)
+    requires { ⌜ Ready n (now table) × Among n i j × (base + n * n * n ≤ tableRows n) × (length (now heard) ≡ 169) × HeardTo base n list faulty (now table) (now said) i (j * n) (now heard) ⌝ }
+    ensures { λ r. ⌜ HeardTo base n list faulty (now (table .entry)) (now (said .entry)) i (j * n + n) (now (heard .exit)) ⌝ }
 {
-    let mut out = [0u64; 13];
-    let mut j: usize = 0;
-    while j < n {
+    let mut k: usize = 0;
+    while k < n {
         let place = place_from(base, n, j, i, k);
-        out[j] = hear(list, faulty, table, j, place, said[k * n + j]);
-        j += 1;
+        heard[k * n + j] = hear(list, faulty, table, j, place, said[j * n + k]);
+        k += 1;
     }
-    out
 }
 
-// Y[k] of box i, which a sound box sends in step 3, from the V of all boxes; 0 for a faulty box.
-fn step3_cell(
+// What box i with this list hears from all boxes about all leaders, a column for each leader.
+fn hear_all(
+    base: usize,
+    n: usize,
+    list: u16,
+    faulty: u16,
+    table: &[u64],
+    said: &[u64; 169],
+    i: usize,
+    heard: &mut [u64],
+)
+    requires { ⌜ Ready n (now table) × (i < n) × (base + n * n * n ≤ tableRows n) × (length (now heard) ≡ 169) ⌝ }
+    ensures { λ r. ⌜ HeardTo base n list faulty (now (table .entry)) (now (said .entry)) i (n * n) (now (heard .exit)) ⌝ }
+{
+    let mut j: usize = 0;
+    while j < n {
+        hear_from(base, n, list, faulty, table, said, i, j, heard);
+        j += 1;
+    }
+}
+
+// The votes of box i over the columns that it heard.
+fn put_votes(n: usize, t: u8, heard: &[u64], i: usize, out: &mut [u64])
+    requires { ⌜ (1 ≤ n) × (n ≤ 13) × (3 * t < n) × (i < n) × (length (now heard) ≡ 169) × (length (now out) ≡ 169) ⌝ }
+    ensures { λ r. ⌜ PutTo n i n (λ k. voteOf t (columnOf n (now (heard .entry)) k)) (now (out .entry)) (now (out .exit)) ⌝ }
+{
+    let mut k: usize = 0;
+    while k < n {
+        let from = k * n;
+        let end = from + n;
+        out[i * n + k] = tally::vote(&heard[from..end], t).row;
+        k += 1;
+    }
+}
+
+// Steps 2 and 3 for box i: Y, which a sound box sends in step 3, from the V of all boxes. A faulty box's cells stay 0.
+fn step3_box(
     n: usize,
     t: u8,
     faulty: u16,
@@ -127,19 +166,20 @@ fn step3_cell(
     table: &[u64],
     second: &[u64; 169],
     i: usize,
-    k: usize,
-) -> u64
-    requires { ⌜ Ready n (now table) × Among n i k × (3 * t < n) ⌝ }
-    ensures { λ r. ⌜ VoteCell n t faulty (now (lists .entry)) (now (table .entry)) (now (second .entry)) i k r ⌝ }
+    heard: &mut [u64],
+    out: &mut [u64],
+)
+    requires { ⌜ Ready n (now table) × (3 * t < n) × (i < n) × (length (now heard) ≡ 169) × (length (now out) ≡ 169) ⌝ }
+    ensures { λ r. ⌜ PutVotes n t faulty (now (lists .entry)) (now (table .entry)) (now (second .entry)) i (now (out .entry)) (now (out .exit)) ⌝ }
 {
     if sizes::is_member(faulty, i) {
-        return 0;
+        return;
     }
-    let heard = column(n * n, n, lists[i], faulty, table, second, i, k);
-    tally::vote(&heard[..n], t).row
+    hear_all(n * n, n, lists[i], faulty, table, second, i, heard);
+    put_votes(n, t, heard, i, out);
 }
 
-// Steps 2 and 3: Y of every sound box, which it sends in step 3, leader by leader.
+// Steps 2 and 3: Y of every sound box, put to cells that are 0.
 fn step3(
     n: usize,
     t: u8,
@@ -147,22 +187,39 @@ fn step3(
     lists: &[u16; 13],
     table: &[u64],
     second: &[u64; 169],
-) -> [u64; 169]
-    requires { ⌜ Ready n (now table) × (3 * t < n) ⌝ }
-    ensures { λ r. ⌜ AllVotes n t faulty (now (lists .entry)) (now (table .entry)) (now (second .entry)) r ⌝ }
+    heard: &mut [u64],
+    out: &mut [u64],
+)
+    requires { ⌜ Ready n (now table) × (3 * t < n) × (length (now heard) ≡ 169) × (now out ≡ replicate 169 0) ⌝ }
+    ensures { λ r. ⌜ AllVotes n t faulty (now (lists .entry)) (now (table .entry)) (now (second .entry)) (now (out .exit)) ⌝ }
 {
-    let mut out = [0u64; 169];
-    let size = n * n;
-    let mut p: usize = 0;
-    while p < size {
-        out[p] = step3_cell(n, t, faulty, lists, table, second, p % n, p / n);
-        p += 1;
+    let mut i: usize = 0;
+    while i < n {
+        step3_box(n, t, faulty, lists, table, second, i, heard, out);
+        i += 1;
     }
-    out
 }
 
-// Step 4 for box i and leader k, from the Y of all boxes; 0 for a faulty box.
-fn step4_cell(
+// The grades of box i over the columns that it heard.
+fn put_grades(n: usize, t: u8, heard: &[u64], i: usize, rows: &mut [u64], confidences: &mut [u8])
+    requires { ⌜ (1 ≤ n) × (n ≤ 13) × (3 * t < n) × (i < n) × (length (now heard) ≡ 169) × (length (now rows) ≡ 169) × (length (now confidences) ≡ 169) ⌝ }
+    ensures { λ r. ⌜ PutTo n i n (λ k. gradedRow t (columnOf n (now (heard .entry)) k)) (now (rows .entry)) (now (rows .exit)) ⌝ }
+    ensures { λ r. ⌜ PutTo n i n (λ k. confidenceOf t (columnOf n (now (heard .entry)) k)) (now (confidences .entry)) (now (confidences .exit)) ⌝ }
+{
+    let mut k: usize = 0;
+    while k < n {
+        let from = k * n;
+        let end = from + n;
+        let graded = tally::grade(&heard[from..end], t);
+        let place = i * n + k;
+        rows[place] = graded.row;
+        confidences[place] = graded.confidence;
+        k += 1;
+    }
+}
+
+// Step 4 for box i, from the Y of all boxes. A faulty box's cells stay 0.
+fn step4_box(
     n: usize,
     t: u8,
     faulty: u16,
@@ -170,23 +227,31 @@ fn step4_cell(
     table: &[u64],
     third: &[u64; 169],
     i: usize,
-    k: usize,
-) -> tally::Graded
-    requires { ⌜ Ready n (now table) × Among n i k × (3 * t < n) ⌝ }
-    ensures { λ r. ⌜ GradeCell n t faulty (now (lists .entry)) (now (table .entry)) (now (third .entry)) i k r ⌝ }
+    heard: &mut [u64],
+    rows: &mut [u64],
+    confidences: &mut [u8],
+)
+    requires { ⌜ Ready n (now table) × (3 * t < n) × (i < n) × (length (now heard) ≡ 169) × (length (now rows) ≡ 169) × (length (now confidences) ≡ 169) ⌝ }
+    ensures { λ r. ⌜ PutRows n t faulty (now (lists .entry)) (now (table .entry)) (now (third .entry)) i (now (rows .entry)) (now (rows .exit)) ⌝ }
+    ensures { λ r. ⌜ PutConfidences n t faulty (now (lists .entry)) (now (table .entry)) (now (third .entry)) i (now (confidences .entry)) (now (confidences .exit)) ⌝ }
 {
     if sizes::is_member(faulty, i) {
-        return tally::Graded {
-            refusal: 0,
-            row: 0,
-            confidence: 0,
-        };
+        return;
     }
-    let heard = column(n * n + n * n * n, n, lists[i], faulty, table, third, i, k);
-    tally::grade(&heard[..n], t)
+    hear_all(
+        n * n + n * n * n,
+        n,
+        lists[i],
+        faulty,
+        table,
+        third,
+        i,
+        heard,
+    );
+    put_grades(n, t, heard, i, rows, confidences);
 }
 
-// Step 4: what every sound box makes of every leader.
+// Step 4: what every sound box makes of every leader, put to cells that are 0.
 fn step4(
     n: usize,
     t: u8,
@@ -194,25 +259,28 @@ fn step4(
     lists: &[u16; 13],
     table: &[u64],
     third: &[u64; 169],
-    sent: u64,
-) -> Cast
-    requires { ⌜ Ready n (now table) × (3 * t < n) ⌝ }
-    ensures { λ r. ⌜ AllGrades n t faulty (now (lists .entry)) (now (table .entry)) (now (third .entry)) r × (r .sent ≡ sent) ⌝ }
+    heard: &mut [u64],
+    rows: &mut [u64],
+    confidences: &mut [u8],
+)
+    requires { ⌜ Ready n (now table) × (3 * t < n) × (length (now heard) ≡ 169) × (now rows ≡ replicate 169 0) × (now confidences ≡ replicate 169 0) ⌝ }
+    ensures { λ r. ⌜ AllGrades n t faulty (now (lists .entry)) (now (table .entry)) (now (third .entry)) (now (rows .exit)) (now (confidences .exit)) ⌝ }
 {
-    let mut rows = [0u64; 169];
-    let mut confidences = [0u8; 169];
-    let size = n * n;
-    let mut p: usize = 0;
-    while p < size {
-        let graded = step4_cell(n, t, faulty, lists, table, third, p / n, p % n);
-        rows[p] = graded.row;
-        confidences[p] = graded.confidence;
-        p += 1;
-    }
-    Cast {
-        sent,
-        rows,
-        confidences,
+    let mut i: usize = 0;
+    while i < n {
+        step4_box(
+            n,
+            t,
+            faulty,
+            lists,
+            table,
+            third,
+            i,
+            heard,
+            rows,
+            confidences,
+        );
+        i += 1;
     }
 }
 
@@ -273,9 +341,29 @@ pub fn steps(
     requires { ⌜ Ready n (now table) × (3 * t < n) ⌝ }
     ensures { λ r. ⌜ r ≡ castReply n t faulty (now (rows .entry)) (now (lists .entry)) (now (table .entry)) ⌝ }
 {
-    let second = step1(n, faulty, rows, lists, table);
-    let third = step3(n, t, faulty, lists, table, &second);
+    let mut second = [0u64; 169];
+    step1(n, faulty, rows, lists, table, &mut second);
+    let mut heard = [0u64; 169];
+    let mut third = [0u64; 169];
+    step3(n, t, faulty, lists, table, &second, &mut heard, &mut third);
     let size = n * n;
     let boxes = sent_in_step1(n, faulty, rows) + sent_in(&second[..size]) + sent_in(&third[..size]);
-    step4(n, t, faulty, lists, table, &third, (n * boxes) as u64)
+    let mut grades = [0u64; 169];
+    let mut confidences = [0u8; 169];
+    step4(
+        n,
+        t,
+        faulty,
+        lists,
+        table,
+        &third,
+        &mut heard,
+        &mut grades,
+        &mut confidences,
+    );
+    Cast {
+        sent: (n * boxes) as u64,
+        rows: grades,
+        confidences,
+    }
 }

@@ -5,17 +5,14 @@ use mathlib.Core.Path.{_≡_, sym, ap, ap₂, _∙_, subst}
 use mathlib.Core.Bool.{false, _||_}
 use mathlib.Core.List.{List}
 use Prim.Native.Nat.{ℕ, _+_, _-_, _*_, _≤_, _<_}
-use native.Mathlib.Nat.{suc-mul, mul-le-mul-right}
 use native.Mathlib.Omega.{arith}
 use lib.Dec.{ltb}
-use lib.ListN.{length, getD, take, drop, length-drop}
-use lib.Seq.{getD-take, getD-drop, length-take-le}
+use lib.ListN.{length, getD, take, drop}
 use borrow.Author.Tests.{eq-eqb, ne-eqb}
-use Rattle.sizes.proofs.Laws.{square-le}
 use Rattle.counting.specs.Count.{build}
 use Rattle.counting.specs.Sets.{member}
 use Rattle.counting.proofs.Bools.{cond-true, cond-false}
-use Rattle.counting.proofs.Build.{built, getD-build, length-build}
+use Rattle.counting.proofs.Build.{getD-build, length-build}
 use Rattle.counting.proofs.Sets.{setOf-ext}
 use Rattle.tally.specs.Tally.{chosenRow}
 use Rattle.tally.specs.Reply.{choiceReply}
@@ -23,18 +20,11 @@ use Rattle.tally.proofs.Laws.{confidence-le}
 use Rattle.tally.proofs.Taken.{choice-row}
 use Rattle.gradecast.specs.Steps.{gradeRow, confidence}
 use Rattle.gradecast.specs.Cast.{ofSound, cells}
-use Rattle.gradecast.proofs.Cells.{cells-at}
+use Rattle.gradecast.proofs.Cells.{cells-at, part-built}
 use Rattle.gradecast.proofs.Sound.{of-sound}
 use Rattle.run.specs.declared.Run.{Run}
 use Rattle.run.specs.Grades.{GradesOf, Working, listFrom}
 use Rattle.run.specs.Iteration.{gradedRows, confidences, newRow, newList}
-
--- a box's part lies within the 169 places
-pub part-fits : {n i : ℕ} → n ≤ 13 → i < n → i * n + n ≤ 169
-part-fits {n} {i} high h = omega (arith, square-le high, row-fits)
-  where
-    row-fits : i * n + n ≤ n * n
-    row-fits = subst (λ (m : ℕ). m ≤ n * n) (suc-mul i n) (mul-le-mul-right n h)
 
 module _ (n faulty : ℕ) (f : ℕ → ℕ → ℕ) (i : ℕ) (high : n ≤ 13) (below : i < n) (is-sound : member faulty i ≡ false) where
   -- a cell of a sound box's part
@@ -44,10 +34,7 @@ module _ (n faulty : ℕ) (f : ℕ → ℕ → ℕ) (i : ℕ) (high : n ≤ 13) 
 
   -- the part as a list
   pub part-of : (xs : List ℕ) → length xs ≡ 169 → xs ≡ cells n (ofSound faulty f) → take n (drop (i * n) xs) ≡ build n (f i)
-  part-of xs l e =
-      built n (f i) (take n (drop (i * n) xs))
-      (length-take-le n (drop (i * n) xs) (omega (arith, length-drop (i * n) xs, part-fits high below)))
-      (λ k h. getD-take n (drop (i * n) xs) k 0 h ∙ getD-drop (i * n) xs k 0 ∙ cell-of xs e k h)
+  part-of xs l e = part-built n i (f i) xs high below l (cell-of xs e)
 
 module _ (s : Run) (i : ℕ) (low : 1 ≤ s .n) (high : s .n ≤ 13) (works : Working s i) (table rows confs : List ℕ) (g : GradesOf s table rows confs) where
   -- where box i's part begins and ends

@@ -3,7 +3,8 @@
 use mathlib.Core.Path.{sym, ap, _∙_}
 use native.Mathlib.Omega.{arith}
 use Rattle.tally.specs.declared.Chosen.{Chosen}
-use Rattle.run.proofs.Parts.{part-fits, choice-of, new-row-old, new-row-chosen}
+use Rattle.gradecast.proofs.Cells.{part-fits}
+use Rattle.run.proofs.Parts.{choice-of, new-row-old, new-row-chosen}
 use borrow.Author.Needs.{needs}
 use Rattle.run.proofs.new_row.Statement.{statement}
 use Rattle.run.proofs.new_row.Tie as tie
