@@ -348,7 +348,8 @@ pub fn steps(
     step3(n, t, faulty, lists, table, &second, &mut heard, &mut third);
     let size = n * n;
     let boxes = sent_in_step1(n, faulty, rows) + sent_in(&second[..size]) + sent_in(&third[..size]);
-    let mut grades = [0u64; 169];
+    let sent = (n * boxes) as u64;
+    let mut graded = [0u64; 169];
     let mut confidences = [0u8; 169];
     step4(
         n,
@@ -358,12 +359,12 @@ pub fn steps(
         table,
         &third,
         &mut heard,
-        &mut grades,
+        &mut graded,
         &mut confidences,
     );
     Cast {
-        sent: (n * boxes) as u64,
-        rows: grades,
+        sent,
+        rows: graded,
         confidences,
     }
 }

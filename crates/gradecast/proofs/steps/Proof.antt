@@ -73,6 +73,13 @@ add-boxes-2 c =
     omega
     (arith, square-le (c .before .before .before .before .before .before .before .before .before .before .before .before .before .before .before .pre .0 .high), c .before .before .before .before .before .before .before .before .before .before .before .before .before .before .before .pre .0, c .before .before .before .before .sent-in-step1 .ensures .1, c .before .before .sent-in .ensures .1, c .sent-in2 .ensures .1)
 
+mul-sent : tie.Need-mul-sent
+mul-sent c =
+    let a = c .before .before .before .before .before .before .before .before .before .before .before .before .before .before .before .args in
+    let sent = counted c in
+    omega
+    (arith, sent, messages-bound (a .n) (a .t) (a .faulty) (a .rows .now) (a .lists .now) (a .table .now), table-le (c .before .before .before .before .before .before .before .before .before .before .before .before .before .before .before .pre .0 .high))
+
 slice-aggregate-step4 : tie.Need-slice-aggregate-step4
 slice-aggregate-step4 c = search needs
 
@@ -84,13 +91,6 @@ slice-aggregate-step4-3 c = search needs
 
 step4-requires : tie.Need-step4-requires
 step4-requires c κs = search needs
-
-mul-t27 : tie.Need-mul-t27
-mul-t27 c =
-    let a = c .before .before .before .before .before .before .before .before .before .before .before .before .before .before .before .before .before .before .before .before .before .before .before .args in
-    let sent = counted (c .before .before .before .before .before .before .before .before) in
-    omega
-    (arith, sent, messages-bound (a .n) (a .t) (a .faulty) (a .rows .now) (a .lists .now) (a .table .now), table-le (c .before .before .before .before .before .before .before .before .before .before .before .before .before .before .before .before .before .before .before .before .before .before .before .pre .0 .high))
 
 returns : tie.Need-returns
 returns c = cast-is _ _ _ _ _ _ _ (counted (c .before .before .before .before .before .before .before .before)) (c .before .before .before .step4 .ensures (c .before .before .before .before .before .before .before .before .before .before .before .before .before .before .before .before .before .before .before .before .before .before .before .args .rows .now) (c .before .before .before .before .before .before .before .before .before .before .before .before .before .before .before .step3 .ensures (c .before .before .before .before .before .before .before .before .before .before .before .before .before .before .before .before .before .before .before .before .before .before .before .args .rows .now) (c .before .before .before .before .before .before .before .before .before .before .before .before .before .before .before .before .before .before .before .before .step1 .ensures)))
@@ -114,9 +114,9 @@ steps-spec =
     slice-aggregate-sent-in-2
     sent-in-requires-2
     add-boxes-2
+    mul-sent
     slice-aggregate-step4
     slice-aggregate-step4-2
     slice-aggregate-step4-3
     step4-requires
-    mul-t27
     returns)
