@@ -8,6 +8,7 @@ use Prim.Native.Nat.{ℕ, _+_, _*_, _/_, _%_, _≤_}
 use native.Mathlib.Omega.{arith}
 use lib.Dec.{eqb}
 use lib.ListN.{length, getD, take, replicate}
+use lib.Seq.{length-take-le}
 use Rattle.sizes.proofs.Laws.{square-le}
 use Rattle.counting.specs.Count.{sum, count, build}
 use Rattle.counting.proofs.Bools.{cond-true, cond-false}
@@ -16,8 +17,7 @@ use Rattle.counting.proofs.Count.{count-ext, count-none, count-rows, count-sum,
 use Rattle.sizes.specs.Sizes.{sound}
 use Rattle.gradecast.specs.declared.Cast.{Cast}
 use Rattle.gradecast.specs.Steps.{heard1, voted, gradeRow, confidence, messages}
-use Rattle.gradecast.specs.Cast.{ofSound, cellsTo, cells, castReply}
-use Rattle.gradecast.proofs.Cells.{length-cells}
+use Rattle.gradecast.specs.Cast.{ofSound, cellsTo, cells, SaidSecond, SaidThird, castReply}
 use Rattle.gradecast.proofs.Messages.{sentByOne, messages-quick}
 
 -- how many numbers of a list are not 0
@@ -54,12 +54,8 @@ filled-cells n faulty f xs e =
         ∙ sym (cond-false _ 0 h)
 
 -- and there are n² of them
-pub length-front : (n : ℕ) (f : ℕ → ℕ → ℕ) (xs : List ℕ) → xs ≡ cells n f → length (take (n * n) xs) ≡ n * n
-unfolding cells cellsTo
-length-front n f xs e =
-    ap (λ (ys : List ℕ). length (take (n * n) ys)) e
-    ∙ ap length (front-take (n * n) (λ p. f (p / n) (p % n)) (replicate 169 0))
-    ∙ length-build (n * n) (λ p. f (p / n) (p % n))
+pub length-filled : {n : ℕ} (xs : List ℕ) → n ≤ 13 → length xs ≡ 169 → length (take (n * n) xs) ≡ n * n
+length-filled {n} xs high size = length-take-le (n * n) xs (omega (arith, square-le high))
 
 parted : (b : Bool) (x y z : ℕ) → cond b (x + y + z) 0 ≡ cond b x 0 + cond b y 0 + cond b z 0
 parted true x y z = refl
@@ -72,8 +68,7 @@ first false c = refl
 
 module _ (n t faulty : ℕ) (rows lists table second third : List ℕ) where
   -- the three counts together, n times
-  pub messages-counted : second ≡ cells n (ofSound faulty (heard1 n faulty rows lists table)) →
-      third ≡ cells n (ofSound faulty (voted n t faulty rows lists table)) →
+  pub messages-counted : SaidSecond n faulty lists table second rows → SaidThird n t faulty lists table third rows →
       n *
       (count n (λ j. sound faulty j && not (eqb (getD rows j 0) 0)) + filled (take (n * n) second) + filled (take (n * n) third)) ≡
       messages n t faulty rows lists table
@@ -101,10 +96,6 @@ module _ (n t faulty : ℕ) (rows lists table second third : List ℕ) where
           count-sum n (λ j. sound faulty j && not (eqb (getD rows j 0) 0))
           ∙ sum-ext n (λ j. cond (sound faulty j && not (eqb (getD rows j 0) 0)) 1 0) a
           (λ j l. first (sound faulty j) (eqb (getD rows j 0) 0))
-
--- the cells lie within the 169 places
-pub front-within : (n : ℕ) (f : ℕ → ℕ → ℕ) (xs : List ℕ) → n ≤ 13 → xs ≡ cells n f → n * n ≤ length xs
-front-within n f xs high e = omega (arith, square-le high, ap length e, length-cells n f high)
 
 -- a reply is the whole reply where each of its parts is
 pub cast-is : (n t faulty : ℕ) (rows lists table : List ℕ) (r : Cast) → r .sent ≡ messages n t faulty rows lists table →

@@ -86,6 +86,12 @@ module _ (n t faulty : ℕ) (lists table said : List ℕ) where
       (last-rows ≡ cells n (ofSound faulty (gradeRow n t faulty rows lists table))) ×
       (last-confidences ≡ cells n (ofSound faulty (confidence n t faulty rows lists table)))
 
+-- the messages, where the cells are what the sound boxes send in steps 2 and 3
+abbrev pub AllSent : ℕ → ℕ → List ℕ → List ℕ → List ℕ → ℕ → Type 0
+AllSent n faulty rows second third sent =
+    (t : ℕ) (lists table : List ℕ) → SaidSecond n faulty lists table second rows → SaidThird n t faulty lists table third rows →
+    sent ≡ messages n t faulty rows lists table
+
 -- the whole reply of steps 1 to 4
 unfoldable pub castReply : ℕ → ℕ → ℕ → List ℕ → List ℕ → List ℕ → Cast
 castReply n t faulty rows lists table =

@@ -21,6 +21,7 @@ ghost use Rattle.gradecast.specs.Cast.{
   PutRows,
   PutConfidences,
   AllGrades,
+  AllSent,
   castReply,
 };
 
@@ -329,6 +330,16 @@ fn sent_in_step1(n: usize, faulty: u16, rows: &[u64; 13]) -> usize
     sent
 }
 
+// The messages of steps 1 to 3, from the rows and from what the sound boxes send in steps 2 and 3: each goes to n boxes.
+fn messages_of(n: usize, faulty: u16, rows: &[u64; 13], second: &[u64], third: &[u64]) -> u64
+    requires { ⌜ (n ≤ 13) × (length (now second) ≡ 169) × (length (now third) ≡ 169) ⌝ }
+    ensures { λ r. ⌜ AllSent n faulty (now (rows .entry)) (now (second .entry)) (now (third .entry)) r ⌝ }
+{
+    let size = n * n;
+    let boxes = sent_in_step1(n, faulty, rows) + sent_in(&second[..size]) + sent_in(&third[..size]);
+    (n * boxes) as u64
+}
+
 // Steps 1 to 4 for every box.
 pub fn steps(
     n: usize,
@@ -346,9 +357,7 @@ pub fn steps(
     let mut heard = [0u64; 169];
     let mut third = [0u64; 169];
     step3(n, t, faulty, lists, table, &second, &mut heard, &mut third);
-    let size = n * n;
-    let boxes = sent_in_step1(n, faulty, rows) + sent_in(&second[..size]) + sent_in(&third[..size]);
-    let sent = (n * boxes) as u64;
+    let sent = messages_of(n, faulty, rows, &second, &third);
     let mut graded = [0u64; 169];
     let mut confidences = [0u8; 169];
     step4(
