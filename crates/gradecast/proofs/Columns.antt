@@ -2,7 +2,7 @@
 -- column is a part of its own. That column is the document's: the cell at j * n + k is what box j sends about leader k where j is
 -- sound, and a faulty box's cell is never heard.
 -- Assumes nothing.
-use mathlib.Core.Path.{_≡_, refl, sym, ap, ap₂, _∙_}
+use mathlib.Core.Path.{_≡_, sym, ap, ap₂, _∙_}
 use mathlib.Core.List.{List}
 use mathlib.Core.Logic.{⊎-elim}
 use mathlib.Core.Bool.{false}

@@ -1,9 +1,9 @@
 -- `gradecast::hear_all` meets its contract: after j turns the rows of the senders below j are put down. What is left of n falls. Assumes
 -- nothing.
-use mathlib.Core.Path.{_≡_, refl, sym, ap, _∙_}
-use Prim.Native.Nat.{ℕ, _+_, _*_, _-_, _≤_}
+use mathlib.Core.Path.{_≡_, ap}
+use Prim.Native.Nat.{ℕ, _*_, _-_, _≤_}
 use native.Mathlib.Omega.{arith}
-use lib.ListN.{length, getD, length-set}
+use lib.ListN.{length}
 use Rattle.gradecast.specs.Cast.{HeardTo}
 use Rattle.gradecast.proofs.Cells.{row-after}
 use borrow.Author.Needs.{needs}

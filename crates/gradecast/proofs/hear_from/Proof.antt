@@ -1,9 +1,9 @@
 -- `gradecast::hear_from` meets its contract: after k turns the rows about the leaders below k are put down, behind those of the senders
 -- below j. What is left of n falls. Assumes nothing.
-use mathlib.Core.Path.{_≡_, refl, sym, ap, _∙_}
+use mathlib.Core.Path.{_≡_, ap, _∙_}
 use Prim.Native.Nat.{ℕ, _+_, _*_, _-_, _≤_}
 use native.Mathlib.Omega.{arith}
-use lib.ListN.{length, getD, length-set}
+use lib.ListN.{length, getD}
 use Rattle.sizes.proofs.Laws.{table-le}
 use Rattle.gradecast.specs.Steps.{hears, sends}
 use Rattle.gradecast.specs.Cast.{heardFrom, HeardTo}

@@ -1,9 +1,9 @@
 -- `gradecast::put_votes` meets its contract: after k turns the votes over the columns of the leaders below k are put. What is left of n
 -- falls. Assumes nothing.
-use mathlib.Core.Path.{_≡_, refl, sym, ap, _∙_}
-use Prim.Native.Nat.{ℕ, _+_, _*_, _-_, _≤_}
+use mathlib.Core.Path.{_≡_, ap, _∙_}
+use Prim.Native.Nat.{_-_, _≤_}
 use native.Mathlib.Omega.{arith}
-use lib.ListN.{length, getD, length-set}
+use lib.ListN.{length}
 use Rattle.gradecast.specs.Cast.{columnOf, PutTo}
 use Rattle.tally.specs.Tally.{voteOf}
 use Rattle.tally.specs.declared.Voted.{Voted}

@@ -1,10 +1,10 @@
 -- `gradecast::step1_box` meets its contract: a faulty box's cells are 0 as they stand; for a sound box the first k are put after k turns.
 -- What is left of n falls. Assumes nothing.
-use mathlib.Core.Path.{_≡_, refl, sym, ap, _∙_}
-use Prim.Native.Nat.{ℕ, _+_, _*_, _-_, _≤_}
+use mathlib.Core.Path.{_≡_, sym, ap, _∙_}
+use Prim.Native.Nat.{ℕ, _-_, _≤_}
 use native.Mathlib.Omega.{arith}
-use lib.ListN.{length, getD, length-set}
-use Rattle.gradecast.specs.Cast.{ofSound, PutTo}
+use lib.ListN.{length, getD}
+use Rattle.gradecast.specs.Cast.{PutTo}
 use Rattle.gradecast.specs.Steps.{hears, sends, heard1}
 use Rattle.gradecast.proofs.Cells.{part-fits, put-none, put-turn, put-whole, put-nothing, put-same}
 use Rattle.gradecast.proofs.Sound.{of-faulty, of-sound}

@@ -1,10 +1,7 @@
 -- `gradecast::step4_box` meets its contract: a faulty box's cells are 0 as they stand; a sound box grades over the columns of step 3 in the
 -- document, and the grades are those of step 4. Assumes nothing.
-use mathlib.Core.Path.{_≡_, refl, sym, ap, _∙_}
-use mathlib.Core.List.{List}
-use Prim.Native.Nat.{ℕ, _+_, _*_, _-_, _≤_}
+use mathlib.Core.Path.{sym, _∙_}
 use native.Mathlib.Omega.{arith}
-use lib.ListN.{length, getD}
 use Rattle.gradecast.proofs.Cells.{put-nothing, put-same}
 use Rattle.gradecast.proofs.Columns.{rows-heard, confidences-heard}
 use Rattle.gradecast.proofs.Places.{third-fits}
