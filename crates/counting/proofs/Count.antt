@@ -123,26 +123,6 @@ unfolding count
 count-parted zero p q = refl
 count-parted (suc n) p q = let i = complement (p n) (q n) in let h = count-parted n p q in omega arith
 
-whole : (a : Bool) → cond a 1 0 + cond (not a) 1 0 ≡ 1
-whole true = refl
-whole false = refl
-
--- a test and its complement count everything
-pub count-not : (n : ℕ) (p : ℕ → Bool) → count n p + count n (λ k. not (p k)) ≡ n
-unfolding count
-count-not zero p = refl
-count-not (suc n) p = let i = whole (p n) in let h = count-not n p in omega arith
-
--- disjoint tests count no more than there is
-pub count-disjoint : (n : ℕ) (p q : ℕ → Bool) → ((k : ℕ) → k < n → p k ≡ true → q k ≡ false) → count n p + count n q ≤ n
-count-disjoint n p q h =
-    let l : count n q ≤ count n (λ k. not (p k)) = count-mono n q (λ k. not (p k)) (λ k b t. apart (p k) (h k b) t) in
-    omega (arith, count-not n p)
-  where
-    apart : {b : Bool} (a : Bool) → (a ≡ true → b ≡ false) → b ≡ true → not a ≡ true
-    apart true f t = never t (f refl)
-    apart false f t = refl
-
 pub count-none : (n : ℕ) (p : ℕ → Bool) → ((k : ℕ) → k < n → p k ≡ false) → count n p ≡ 0
 unfolding count
 count-none zero p h = refl
@@ -249,11 +229,6 @@ unfolding any
 none-any zero p h = refl
 none-any (suc n) p h = or-none (none-any n p (lower n h)) (h n (le-refl _))
 
-pub any-ext : (n : ℕ) (p q : ℕ → Bool) → ((k : ℕ) → k < n → p k ≡ q k) → any n p ≡ any n q
-unfolding any
-any-ext zero p q h = refl
-any-ext (suc n) p q h = ap₂ _||_ (any-ext n p q (lower n h)) (h n (le-refl _))
-
 -- `find` gives an element that passes the test, or 0 where none does
 pub record Found (n : ℕ) (p : ℕ → Bool) (f : ℕ → ℕ) (v : ℕ) : Type 0 where
   pub at : ℕ
@@ -279,11 +254,6 @@ find-cases (suc n) p f = go (p (f n)) refl (find-cases n p f)
 pub any-turn : (n : ℕ) (p : ℕ → Bool) → any n p ≡ false → p n ≡ false → any (n + 1) p ≡ false
 unfolding any
 any-turn n p h e = rw add-one (or-none h e)
-
--- the turn of a loop that keeps the last element found
-pub find-turn : (n : ℕ) (p : ℕ → Bool) (f : ℕ → ℕ) {v r : ℕ} → v ≡ find n p f → r ≡ cond (p (f n)) (f n) v → r ≡ find (n + 1) p f
-unfolding find
-find-turn n p f h e = rw add-one (e ∙ ap (λ (w : ℕ). cond (p (f n)) (f n) w) h)
 
 -- a count over a longer bound goes on where the shorter one ended
 pub count-add : (a b : ℕ) (p : ℕ → Bool) → count (a + b) p ≡ count a p + count b (λ k. p (a + k))

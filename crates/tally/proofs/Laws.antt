@@ -9,7 +9,6 @@ use mathlib.Core.List.{List}
 use mathlib.Core.Logic.{_⊎_, ⊎-elim, _↔_}
 use mathlib.Core.Logic._⊎_.{inl, inr}
 use Prim.Native.Nat.{ℕ, zero, suc, _+_, _-_, _*_, _≤_, _<_}
-use native.Mathlib.Decide.{ℕ-discrete}
 use native.Mathlib.Omega.{arith}
 use lib.Dec.{eqb, leb, ltb}
 use lib.ListN.{length, getD}
@@ -159,14 +158,6 @@ module _ (t : ℕ) (xs : List ℕ) where
 
       not-zero : most xs ≡ 0 → ⊥
       not-zero = supported xs (most xs) (more (support xs (most xs)) refl) .0
-
-  -- row 0 comes with confidence 0 only
-  pub graded-zero : gradedRow t xs ≡ 0 → confidenceOf t xs ≡ 0
-  graded-zero e = go (ℕ-discrete (confidenceOf t xs) 0)
-    where
-      go : Dec (confidenceOf t xs ≡ 0) → confidenceOf t xs ≡ 0
-      go (yes c) = c
-      go (no z) = absurd (graded-counts z .0 e)
 
   -- a row in more than half of the places, and in 2t + 1 of them, is graded with confidence 2
   pub graded-firm : (v : ℕ) → (v ≡ 0 → ⊥) → length xs < 2 * places xs v → 2 * t + 1 ≤ places xs v →
