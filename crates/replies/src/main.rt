@@ -118,65 +118,98 @@ fn print_state(text: &mut [u8], word: &[u8], next: Next) {
     inout::print_line(text, word, &numbers);
 }
 
+// The head of a vote, a grade or a choice: did all of it come, how many rows, and the byte behind their number.
+struct Head {
+    whole: bool,
+    count: usize,
+    second: u8,
+}
+
+// Reads the head of a request and its rows.
+fn take_head(bytes: &mut [u8], rows: &mut [u64]) -> Head
+    requires { ⌜ (length (now bytes) ≡ 65536) × (length (now rows) ≡ 5001) ⌝ }
+    ensures { λ r. ⌜ r .count < 256 ⌝ }
+{
+    if !take(bytes, 2) {
+        return Head {
+            whole: false,
+            count: 0,
+            second: 0,
+        };
+    }
+    let count = small(bytes[0]);
+    let second = bytes[1];
+    Head {
+        whole: take_rows(bytes, count, rows),
+        count,
+        second,
+    }
+}
+
+// Prints a vote.
+fn print_vote(rows: &[u64], t: u8, text: &mut [u8]) {
+    let voted = tally::vote(rows, t);
+    inout::print_line(text, b"vote", &[voted.refusal as u64, voted.row]);
+}
+
 // A vote. Here and below: false where the request is cut short or asks for too much.
 fn answer_vote(bytes: &mut [u8], rows: &mut [u64], text: &mut [u8]) -> bool
     requires { ⌜ (length (now bytes) ≡ 65536) × (length (now rows) ≡ 5001) ⌝ }
 {
-    if !take(bytes, 2) {
-        return false;
+    let head = take_head(bytes, rows);
+    let count = head.count;
+    if head.whole {
+        print_vote(&rows[0..count], head.second, text);
     }
-    let count = small(bytes[0]);
-    let t = bytes[1];
-    if !take_rows(bytes, count, rows) {
-        return false;
-    }
-    let voted = tally::vote(&rows[..count], t);
-    inout::print_line(text, b"vote", &[voted.refusal as u64, voted.row]);
-    true
+    head.whole
+}
+
+// Prints a grade.
+fn print_grade(rows: &[u64], t: u8, text: &mut [u8]) {
+    let graded = tally::grade(rows, t);
+    inout::print_line(
+        text,
+        b"grade",
+        &[graded.refusal as u64, graded.row, graded.confidence as u64],
+    );
 }
 
 // A grade.
 fn answer_grade(bytes: &mut [u8], rows: &mut [u64], text: &mut [u8]) -> bool
     requires { ⌜ (length (now bytes) ≡ 65536) × (length (now rows) ≡ 5001) ⌝ }
 {
-    if !take(bytes, 2) {
-        return false;
+    let head = take_head(bytes, rows);
+    let count = head.count;
+    if head.whole {
+        print_grade(&rows[0..count], head.second, text);
     }
-    let count = small(bytes[0]);
-    let t = bytes[1];
-    if !take_rows(bytes, count, rows) {
-        return false;
-    }
-    let graded = tally::grade(&rows[..count], t);
+    head.whole
+}
+
+// Prints a choice.
+fn print_choice(rows: &[u64], confidences: &[u8], text: &mut [u8]) {
+    let chosen = tally::choose(rows, confidences);
     inout::print_line(
         text,
-        b"grade",
-        &[graded.refusal as u64, graded.row, graded.confidence as u64],
+        b"choice",
+        &[chosen.refusal as u64, chosen.row, chosen.firm as u64],
     );
-    true
 }
 
 // A choice.
 fn answer_choice(bytes: &mut [u8], rows: &mut [u64], text: &mut [u8]) -> bool
     requires { ⌜ (length (now bytes) ≡ 65536) × (length (now rows) ≡ 5001) ⌝ }
 {
-    if !take(bytes, 2) {
-        return false;
-    }
-    let count = small(bytes[0]);
-    let size = small(bytes[1]);
-    if !take_rows(bytes, count, rows) {
+    let head = take_head(bytes, rows);
+    let count = head.count;
+    let size = small(head.second);
+    if !head.whole {
         return false;
     }
     if !take(bytes, size) {
         return false;
     }
-    let chosen = tally::choose(&rows[..count], &bytes[..size]);
-    inout::print_line(
-        text,
-        b"choice",
-        &[chosen.refusal as u64, chosen.row, chosen.firm as u64],
-    );
+    print_choice(&rows[0..count], &bytes[0..size], text);
     true
 }
 
@@ -194,7 +227,7 @@ fn answer_start(bytes: &mut [u8], rows: &mut [u64], text: &mut [u8]) -> bool
     if !take_rows(bytes, count, rows) {
         return false;
     }
-    print_state(text, b"start", run::start(n, t, faulty, &rows[..count]));
+    print_state(text, b"start", run::start(n, t, faulty, &rows[0..count]));
     true
 }
 
@@ -213,7 +246,7 @@ fn answer_iteration(bytes: &mut [u8], rows: &mut [u64], text: &mut [u8]) -> bool
     if !take_rows(bytes, count, rows) {
         return false;
     }
-    print_state(text, b"iteration", run.iterate(&rows[..count]));
+    print_state(text, b"iteration", run.iterate(&rows[0..count]));
     true
 }
 
@@ -262,7 +295,7 @@ fn answer_heading(bytes: &mut [u8], numbers: &mut [u64], text: &mut [u8]) -> boo
     if !take(bytes, size) {
         return false;
     }
-    print_heading(&bytes[..size], &mut numbers[..end], text);
+    print_heading(&bytes[0..size], &mut numbers[0..end], text);
     true
 }
 
@@ -297,7 +330,7 @@ fn answer_table(bytes: &mut [u8], numbers: &mut [u64], text: &mut [u8]) -> bool
     if !take(bytes, size) {
         return false;
     }
-    print_table(n, &bytes[..size], &mut numbers[..1 + room], text);
+    print_table(n, &bytes[0..size], &mut numbers[0..1 + room], text);
     true
 }
 
