@@ -20,7 +20,8 @@ use Rattle.tally.specs.Reply.{voteReply, gradeReply}
 use Rattle.tally.proofs.Replies.{Sized}
 use Rattle.tally.proofs.Taken.{vote-row, grade-row, grade-confidence}
 use Rattle.gradecast.specs.Steps.{placeFrom, place2, place3, sends, hears, heard1, heard2, column2, voted, heard3, column3, gradeRow, confidence}
-use Rattle.gradecast.specs.Cast.{ofSound, cells, heardFrom, HeardTo, columnOf, SaidSecond, SaidThird}
+use Rattle.gradecast.specs.Cast.{ofSound, cells}
+use Rattle.gradecast.specs.Inside.{heardFrom, HeardTo, columnOf, SaidSecond, SaidThird}
 use Rattle.gradecast.proofs.Cells.{cells-at, part-fits, part-built}
 use Rattle.gradecast.proofs.Places.{two-digits}
 use Rattle.gradecast.proofs.Sound.{of-sound, sends-sound}

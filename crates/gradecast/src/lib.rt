@@ -8,11 +8,9 @@ ghost use Rattle.counting.specs.Count.{count};
 ghost use Rattle.sizes.specs.Sizes.{sound, tableRows};
 ghost use Rattle.tally.specs.Tally.{voteOf, confidenceOf, gradedRow};
 ghost use Rattle.gradecast.specs.Steps.{place1, placeFrom, sends, hears, heard1};
-ghost use Rattle.gradecast.specs.Cast.{
-  Ready,
+ghost use Rattle.gradecast.specs.Cast.{Ready, ofSound, cells, castReply};
+ghost use Rattle.gradecast.specs.Inside.{
   Among,
-  ofSound,
-  cells,
   columnOf,
   HeardTo,
   PutTo,
@@ -22,7 +20,6 @@ ghost use Rattle.gradecast.specs.Cast.{
   PutConfidences,
   AllGrades,
   AllSent,
-  castReply,
 };
 
 // What all boxes make of all leaders: the messages of steps 1 to 3, and the row and the confidence that box i gives leader k at

@@ -4,7 +4,7 @@ use mathlib.Core.Path.{_≡_, ap}
 use Prim.Native.Nat.{ℕ, _*_, _-_, _≤_}
 use native.Mathlib.Omega.{arith}
 use lib.ListN.{length}
-use Rattle.gradecast.specs.Cast.{HeardTo}
+use Rattle.gradecast.specs.Inside.{HeardTo}
 use Rattle.gradecast.proofs.Cells.{row-after}
 use borrow.Author.Needs.{needs}
 use Rattle.gradecast.proofs.hear_all.Statement.{statement}

@@ -6,7 +6,7 @@ use native.Mathlib.Omega.{arith}
 use lib.ListN.{length, getD}
 use Rattle.sizes.proofs.Laws.{table-le}
 use Rattle.gradecast.specs.Steps.{hears, sends}
-use Rattle.gradecast.specs.Cast.{heardFrom, HeardTo}
+use Rattle.gradecast.specs.Inside.{heardFrom, HeardTo}
 use Rattle.gradecast.proofs.Columns.{heard-turn}
 use Rattle.gradecast.proofs.Cells.{part-fits}
 use borrow.Author.Needs.{needs}

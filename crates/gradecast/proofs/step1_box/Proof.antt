@@ -4,7 +4,7 @@ use mathlib.Core.Path.{_≡_, sym, ap, _∙_}
 use Prim.Native.Nat.{ℕ, _-_, _≤_}
 use native.Mathlib.Omega.{arith}
 use lib.ListN.{length, getD}
-use Rattle.gradecast.specs.Cast.{PutTo}
+use Rattle.gradecast.specs.Inside.{PutTo}
 use Rattle.gradecast.specs.Steps.{hears, sends, heard1}
 use Rattle.gradecast.proofs.Cells.{part-fits, put-none, put-turn, put-whole, put-nothing, put-same}
 use Rattle.gradecast.proofs.Sound.{of-faulty, of-sound}
