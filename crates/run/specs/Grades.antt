@@ -1,4 +1,5 @@
--- What step 5 is given: the rows and the confidences that every sound box found in step 4, each in 169 places.
+-- What step 5 is given: the rows and the confidences that every sound box found in step 4, each in 169 places. Private functions
+-- speak of it, and no promise of the crate names any of it.
 use mathlib.Core.Path.{_≡_}
 use mathlib.Core.Bool.{false, _||_}
 use mathlib.Core.List.{List}
