@@ -17,7 +17,7 @@ use Rattle.counting.proofs.Build.{build-ext}
 use Rattle.counting.proofs.Count.{at-or-below}
 use Rattle.tally.specs.Tally.{voteOf, confidenceOf, gradedRow}
 use Rattle.tally.specs.Reply.{voteReply, gradeReply}
-use Rattle.tally.proofs.Replies.{Sized}
+use Rattle.sizes.proofs.Laws.{Sized}
 use Rattle.tally.proofs.Taken.{vote-row, grade-row, grade-confidence}
 use Rattle.gradecast.specs.Steps.{placeFrom, place2, place3, sends, hears, heard1, heard2, column2, voted, heard3, column3, gradeRow, confidence}
 use Rattle.gradecast.specs.Cast.{ofSound, cells}

@@ -8,5 +8,6 @@ pub mod Messages
 pub mod Near
 pub mod Places
 pub mod Properties
+pub mod Replies
 pub mod Sent
 pub mod Sound

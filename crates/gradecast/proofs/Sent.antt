@@ -15,9 +15,8 @@ use Rattle.counting.proofs.Bools.{cond-true, cond-false}
 use Rattle.counting.proofs.Build.{front-take, length-build, getD-build}
 use Rattle.counting.proofs.Count.{count-ext, count-none, count-rows, count-sum, sum-ext, sum-add}
 use Rattle.sizes.specs.Sizes.{sound}
-use Rattle.gradecast.specs.declared.Cast.{Cast}
-use Rattle.gradecast.specs.Steps.{heard1, voted, gradeRow, confidence, messages}
-use Rattle.gradecast.specs.Cast.{ofSound, cells, castReply}
+use Rattle.gradecast.specs.Steps.{heard1, voted, messages}
+use Rattle.gradecast.specs.Cast.{ofSound, cells}
 use Rattle.gradecast.specs.Inside.{SaidSecond, SaidThird}
 use Rattle.gradecast.proofs.Messages.{sentByOne, messages-quick}
 
@@ -97,12 +96,3 @@ module _ (n t faulty : ℕ) (rows lists table second third : List ℕ) where
           count-sum n (λ j. sound faulty j && not (eqb (getD rows j 0) 0))
           ∙ sum-ext n (λ j. cond (sound faulty j && not (eqb (getD rows j 0) 0)) 1 0) a
           (λ j l. first (sound faulty j) (eqb (getD rows j 0) 0))
-
--- a reply is the whole reply where each of its parts is
-pub cast-is : (n t faulty : ℕ) (rows lists table : List ℕ) (r : Cast) → r .sent ≡ messages n t faulty rows lists table →
-    (r .rows ≡ cells n (ofSound faulty (gradeRow n t faulty rows lists table))) ×
-    (r .confidences ≡ cells n (ofSound faulty (confidence n t faulty rows lists table))) →
-    r ≡ castReply n t faulty rows lists table
-unfolding castReply
-cast-is n t faulty rows lists table r sent grades =
-    λ i. record { sent = sent i; rows = grades .0 i; confidences = grades .1 i }

@@ -8,7 +8,7 @@ ghost use Rattle.counting.specs.Count.{count};
 ghost use Rattle.sizes.specs.Sizes.{sound, tableRows};
 ghost use Rattle.tally.specs.Tally.{voteOf, confidenceOf, gradedRow};
 ghost use Rattle.gradecast.specs.Steps.{place1, placeFrom, sends, hears, heard1};
-ghost use Rattle.gradecast.specs.Cast.{Ready, ofSound, cells, castReply};
+ghost use Rattle.gradecast.specs.Cast.{Ready, ofSound, cells, castOf, castRefusal, castReply};
 ghost use Rattle.gradecast.specs.Inside.{
   Among,
   columnOf,
@@ -25,6 +25,7 @@ ghost use Rattle.gradecast.specs.Inside.{
 // What all boxes make of all leaders: the messages of steps 1 to 3, and the row and the confidence that box i gives leader k at
 // place i * n + k; 0 in a faulty box's place.
 pub struct Cast {
+    pub refusal: u8,
     pub sent: u64,
     pub rows: [u64; 169],
     pub confidences: [u8; 169],
@@ -337,8 +338,8 @@ fn messages_of(n: usize, faulty: u16, rows: &[u64; 13], second: &[u64], third: &
     (n * boxes) as u64
 }
 
-// Steps 1 to 4 for every box.
-pub fn steps(
+// Steps 1 to 4 for every box, where they are not refused.
+fn all_steps(
     n: usize,
     t: u8,
     faulty: u16,
@@ -347,7 +348,7 @@ pub fn steps(
     table: &[u64],
 ) -> Cast
     requires { ⌜ Ready n (now table) × (3 * t < n) ⌝ }
-    ensures { λ r. ⌜ r ≡ castReply n t faulty (now (rows .entry)) (now (lists .entry)) (now (table .entry)) ⌝ }
+    ensures { λ r. ⌜ r ≡ castOf n t faulty (now (rows .entry)) (now (lists .entry)) (now (table .entry)) ⌝ }
 {
     let mut second = [0u64; 169];
     step1(n, faulty, rows, lists, table, &mut second);
@@ -369,8 +370,46 @@ pub fn steps(
         &mut confidences,
     );
     Cast {
+        refusal: 0,
         sent,
         rows: graded,
         confidences,
     }
+}
+
+// Refusals 4, 5 and 11 of steps 1 to 4.
+fn steps_refusal(n: usize, t: u8, table: &[u64]) -> u8
+    ensures { λ r. ⌜ r ≡ castRefusal n t (now (table .entry)) ⌝ }
+{
+    let refusal = sizes::size_refusal(n, t);
+    if refusal != 0 {
+        return refusal;
+    }
+    if table.len() != sizes::table_rows(n as u8) {
+        return 11;
+    }
+    0
+}
+
+// Steps 1 to 4 for every box, from the rows and lists as they stand and the table of what the faulty boxes send. Refusals 4, 5, 11.
+pub fn steps(
+    n: usize,
+    t: u8,
+    faulty: u16,
+    rows: &[u64; 13],
+    lists: &[u16; 13],
+    table: &[u64],
+) -> Cast
+    ensures { λ r. ⌜ r ≡ castReply n t faulty (now (rows .entry)) (now (lists .entry)) (now (table .entry)) ⌝ }
+{
+    let refusal = steps_refusal(n, t, table);
+    if refusal != 0 {
+        return Cast {
+            refusal,
+            sent: 0,
+            rows: [0; 169],
+            confidences: [0; 169],
+        };
+    }
+    all_steps(n, t, faulty, rows, lists, table)
 }

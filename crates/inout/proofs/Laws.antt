@@ -3,13 +3,14 @@
 use Prim.Native.Nat.{ℕ, _-_, _≤_}
 use native.Mathlib.Omega.{arith}
 use mathlib.Core.Bool.{Bool, true, false}
-use mathlib.Core.Path.{_≡_, refl, ap, subst, _∙_}
-use mathlib.Core.List.{List, [], _++_, append-nil}
+use mathlib.Core.Path.{_≡_, refl, sym, ap, subst, _∙_}
+use mathlib.Core.List.{List, [], _∷_, _++_, append-nil}
 use lib.Dec.{ltb}
-use lib.ListN.{length, take, drop, length-drop}
+use lib.ListN.{length, take, drop, length-drop, drop-of-length-le}
 use lib.Seq.{take-all, drop-length}
 use borrow.Author.Tests.{ltb-false}
-use Rattle.listing.specs.Line.{lineOf, tooShort, lineReply}
+use Rattle.listing.specs.Line.{lineOf, tooShort, lineReply, lineWrites}
+use Rattle.listing.proofs.Laws.{line-keeps}
 
 pub line-fits : (word numbers : List ℕ) (room : ℕ) → lineReply word numbers room .size ≤ room
 unfolding lineReply tooShort
@@ -24,3 +25,17 @@ rest-whole xs at = take-all (length xs - at) (drop at xs) (omega (arith, length-
 pub rest-none : (xs ys : List ℕ) (at : ℕ) → ys ++ drop (length xs - at) (drop at xs) ≡ ys
 rest-none xs ys at =
     ap (λ (zs : List ℕ). ys ++ zs) (subst (λ (k : ℕ). drop k (drop at xs) ≡ []) (length-drop at xs) (drop-length (drop at xs))) ∙ append-nil ys
+
+-- behind the text there is no room, so the text stays as it is
+pub line-beyond : (word numbers text : List ℕ) (at : ℕ) → length text ≤ at →
+    text ≡ take at text ++ lineWrites word numbers (drop at text)
+line-beyond word numbers text at h =
+    sym
+    (ap (λ (zs : List ℕ). take at text ++ lineWrites word numbers zs) (drop-of-length-le text {i = at} h)
+    ∙ ap (λ (zs : List ℕ). take at text ++ zs) (nothing (lineWrites word numbers []) (line-keeps word numbers []))
+    ∙ append-nil (take at text)
+    ∙ take-all at text h)
+  where
+    nothing : (xs : List ℕ) → length xs ≡ 0 → xs ≡ []
+    nothing [] e = refl
+    nothing (x ∷ xs) e = absurd (omega (arith, e))

@@ -8,9 +8,9 @@ use Rattle.counting.specs.Count.{sum, count, any, build, find}
 use Rattle.counting.specs.Sets.{member, setOf}
 use Rattle.counting.specs.Most.{places, support, before, best, most}
 use Rattle.counting.specs.Refuse.{firstOf}
-use Rattle.sizes.specs.Sizes.{outside, tooMany, stray, sound, soundZero, tableRows}
+use Rattle.sizes.specs.Sizes.{outside, tooMany, stray, sizeRefusal, sound, soundZero, tableRows}
 use Rattle.tally.specs.Tally.{carried, voteOf, twoRows, supportOf, confidenceAt, confidenceOf, gradedRow, counted, chosenRow}
-use Rattle.tally.specs.Reply.{voteRefusal, gradeRefusal, unless, voteReply, gradeReply}
+use Rattle.tally.specs.Reply.{voteRefusal, unless, voteReply, gradeReply}
 use Rattle.tally.proofs.Laws.{never-1}
 use Rattle.gradecast.specs.Steps.{place1, placeFrom, place2, place3, sends, hears, heard1, heard2, column2, voted, heard3, column3, confidence, gradeRow, sentTo, messages}
 use Rattle.run.specs.Iteration.{entry, gradedRows, confidences, newRow, newList, nextRun}
@@ -18,7 +18,7 @@ use Rattle.run.specs.State.{startRow, startRefusal, startRun, startReply, badEn
 use Rattle.marked.specs.Cases.{Hold, marked}
 
 pub marked-hold : Hold marked
-unfolding sum count any build find member setOf places support before best most firstOf outside tooMany stray sound soundZero tableRows carried voteOf twoRows supportOf confidenceAt confidenceOf gradedRow counted chosenRow voteRefusal gradeRefusal unless voteReply gradeReply place1 placeFrom place2 place3 sends hears heard1 heard2 column2 voted heard3 column3 confidence gradeRow sentTo messages entry gradedRows confidences newRow newList nextRun startRow startRefusal startRun startReply badEntry badPlace tooManySent iterateRefusal iterateReply after
+unfolding sum count any build find member setOf places support before best most firstOf outside tooMany stray sound soundZero tableRows carried voteOf twoRows supportOf confidenceAt confidenceOf gradedRow counted chosenRow voteRefusal sizeRefusal unless voteReply gradeReply place1 placeFrom place2 place3 sends hears heard1 heard2 column2 voted heard3 column3 confidence gradeRow sentTo messages entry gradedRows confidences newRow newList nextRun startRow startRefusal startRun startReply badEntry badPlace tooManySent iterateRefusal iterateReply after
 marked-hold =
     (refl, (refl, (refl, (refl, (refl, (refl, (refl, (refl, (refl, (refl, (refl, (refl, (refl, (refl, (refl, (refl, (refl, (refl, tt))))))))))))))))))
 

@@ -25,6 +25,26 @@ fn small(byte: u8) -> usize
     byte as usize
 }
 
+// The number in so many bytes from a place on, most significant byte first. The last 8 bytes count.
+fn number(bytes: &[u8], at: usize, size: usize) -> u64
+    requires { ⌜ at + size ≤ length (now bytes) ⌝ }
+{
+    let mut value: u64 = 0;
+    let mut k: usize = 0;
+    while k < size {
+        value = (value % 72057594037927936) * 256 + wide(bytes[at + k]);
+        k += 1;
+    }
+    value
+}
+
+// The number in two bytes.
+fn number2(bytes: &[u8], at: usize) -> u16
+    requires { ⌜ at + 2 ≤ length (now bytes) ⌝ }
+{
+    (number(bytes, at, 2) % 65536) as u16
+}
+
 // Reads so many bytes to the front of the slice. Did all of them come?
 fn take(bytes: &mut [u8], size: usize) -> bool
     requires { ⌜ size ≤ length (now bytes) ⌝ }
@@ -41,7 +61,7 @@ fn take_rows(bytes: &mut [u8], count: usize, rows: &mut [u64]) -> bool
     }
     let mut k: usize = 0;
     while k < count {
-        rows[k] = runfile::number8(bytes, 8 * k);
+        rows[k] = number(bytes, 8 * k, 8);
         k += 1;
     }
     true
@@ -63,7 +83,7 @@ fn state_rows(bytes: &[u8]) -> [u64; 13]
     let mut rows = [0u64; 13];
     let mut i: usize = 0;
     while i < 13 {
-        rows[i] = runfile::number8(bytes, 13 + 8 * i);
+        rows[i] = number(bytes, 13 + 8 * i, 8);
         i += 1;
     }
     rows
@@ -76,7 +96,7 @@ fn state_lists(bytes: &[u8]) -> [u16; 13]
     let mut lists = [0u16; 13];
     let mut i: usize = 0;
     while i < 13 {
-        lists[i] = runfile::number2(bytes, 117 + 2 * i) as u16;
+        lists[i] = number2(bytes, 117 + 2 * i);
         i += 1;
     }
     lists
@@ -91,9 +111,9 @@ fn state(bytes: &[u8]) -> Run
     Run {
         n: bytes[0],
         t: bytes[1],
-        faulty: runfile::number2(bytes, 2) as u16,
+        faulty: number2(bytes, 2),
         done: bytes[4],
-        sent: runfile::number8(bytes, 5),
+        sent: number(bytes, 5, 8),
         rows,
         lists,
     }
@@ -222,7 +242,7 @@ fn answer_start(bytes: &mut [u8], rows: &mut [u64], text: &mut [u8]) -> bool
     }
     let n = bytes[0];
     let t = bytes[1];
-    let faulty = runfile::number2(bytes, 2) as u16;
+    let faulty = number2(bytes, 2);
     let count = small(bytes[4]);
     if !take_rows(bytes, count, rows) {
         return false;
@@ -239,7 +259,7 @@ fn answer_iteration(bytes: &mut [u8], rows: &mut [u64], text: &mut [u8]) -> bool
         return false;
     }
     let run = state(bytes);
-    let count = runfile::number2(bytes, 143) as usize;
+    let count = number2(bytes, 143) as usize;
     if 5000 < count {
         return false;
     }
@@ -322,8 +342,8 @@ fn answer_table(bytes: &mut [u8], numbers: &mut [u64], text: &mut [u8]) -> bool
         return false;
     }
     let n = bytes[0];
-    let size = runfile::number2(bytes, 1) as usize;
-    let room = runfile::number2(bytes, 3) as usize;
+    let size = number2(bytes, 1) as usize;
+    let room = number2(bytes, 3) as usize;
     if 5000 < room {
         return false;
     }

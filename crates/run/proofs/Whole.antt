@@ -1,7 +1,7 @@
 -- One iteration put together: an accepted call is ready for steps 1 to 4, their reply is what step 5 is given, the counters stay
 -- small, and the parts are the document's next state.
 -- Assumes nothing.
-use mathlib.Core.Path.{_≡_, refl, ap, _∙_}
+use mathlib.Core.Path.{_≡_, refl, sym, ap, _∙_}
 use mathlib.Core.Bool.{Bool, true, false, cond, _&&_}
 use mathlib.Core.List.{List}
 use Prim.Native.Nat.{ℕ, _+_, _*_, _≤_, _<_}
@@ -16,9 +16,10 @@ use Rattle.sizes.specs.Sizes.{sound, tableRows}
 use Rattle.sizes.proofs.Laws.{inside-low, inside-high, tolerated-lt, table-le}
 use Rattle.gradecast.specs.declared.Cast.{Cast}
 use Rattle.gradecast.specs.Steps.{messages}
-use Rattle.gradecast.specs.Cast.{Ready, castReply}
+use Rattle.gradecast.specs.Cast.{Ready, castOf, castReply}
 use Rattle.gradecast.proofs.Cells.{length-cells}
 use Rattle.gradecast.proofs.Messages.{messages-bound}
+use Rattle.gradecast.proofs.Replies.{cast-taken, ready-passes}
 use Rattle.run.specs.declared.Run.{Run}
 use Rattle.run.specs.Grades.{GradesOf, Sized, listFrom}
 use Rattle.run.specs.Iteration.{entry, newRow, newList, nextRun}
@@ -49,9 +50,13 @@ module _ (s : Run) (table : List ℕ) (a : Accepted s table) where
   sent-few = ltb-false (s .done * tableRows (s .n)) (s .sent) (a .legal .pass14-sent)
 
   module _ (r : Cast) (e : r ≡ castReply (s .n) (s .t) (s .faulty) (s .rows) (s .lists) table) where
+    -- an accepted iteration's steps are not refused
+    found : r ≡ castOf (s .n) (s .t) (s .faulty) (s .rows) (s .lists) table
+    found = e ∙ sym (cast-taken (s .n) (s .t) (s .faulty) (s .rows) (s .lists) table (ready-passes (s .n) (s .t) table ready few))
+
     sent-is : r .sent ≡ messages (s .n) (s .t) (s .faulty) (s .rows) (s .lists) table
-    unfolding castReply
-    sent-is = ap (λ (c : Cast). c .sent) e
+    unfolding castOf
+    sent-is = ap (λ (c : Cast). c .sent) found
 
     pub sent-small : s .sent + r .sent ≤ 22815
     sent-small =
@@ -66,8 +71,8 @@ module _ (s : Run) (table : List ℕ) (a : Accepted s table) where
 
     -- the reply of steps 1 to 4 is what step 5 is given
     pub grades : GradesOf s table (r .rows) (r .confidences)
-    unfolding castReply
-    grades = record { found-rows = ap (λ (c : Cast). c .rows) e; found-confidences = ap (λ (c : Cast). c .confidences) e }
+    unfolding castOf
+    grades = record { found-rows = ap (λ (c : Cast). c .rows) found; found-confidences = ap (λ (c : Cast). c .confidences) found }
 
     pub cast-sized : Sized s (r .rows) (r .confidences)
     cast-sized =

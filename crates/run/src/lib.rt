@@ -44,14 +44,9 @@ pub struct Next {
 fn setting_refusal(n: u8, t: u8, faulty: u16) -> u8
     ensures { λ r. ⌜ r ≡ settingRefusal n t faulty ⌝ }
 {
-    if n < 1 {
-        return 4;
-    }
-    if 13 < n {
-        return 4;
-    }
-    if (n as u16) <= 3 * (t as u16) {
-        return 5;
+    let refusal = sizes::size_refusal(n as usize, t);
+    if refusal != 0 {
+        return refusal;
     }
     if sizes::is_stray(n, faulty) {
         return 6;

@@ -27,7 +27,7 @@ fn wide(byte: u8) -> u64
 }
 
 // The number in the 2 bytes from a place on.
-pub fn number2(bytes: &[u8], at: usize) -> u64
+fn number2(bytes: &[u8], at: usize) -> u64
     requires { ⌜ at + 2 ≤ length (now bytes) ⌝ }
     ensures { λ r. ⌜ (r ≡ number (now (bytes .entry)) at 2) × (r < 65536) ⌝ }
 {
@@ -49,7 +49,7 @@ fn number4(bytes: &[u8], at: usize) -> u64
 }
 
 // The number in the 8 bytes from a place on.
-pub fn number8(bytes: &[u8], at: usize) -> u64
+fn number8(bytes: &[u8], at: usize) -> u64
     requires { ⌜ at + 8 ≤ length (now bytes) ⌝ }
     ensures { λ r. ⌜ r ≡ number (now (bytes .entry)) at 8 ⌝ }
 {

@@ -1,21 +1,25 @@
 -- What the tests for refusals 4, 5 and 6 say, and the rule of a table by n: one computed test, and the law that turns it into
 -- the formula at every n.
 -- Assumes nothing.
-use mathlib.Core.Path.{_≡_, sym, ap, _∙_, subst}
+use mathlib.Core.Path.{_≡_, refl, sym, ap, _∙_, subst}
 use mathlib.Core.Bool.{Bool, true, false, not}
-use mathlib.Core.List.{List}
+use mathlib.Core.List.{List, [], _∷_}
 use Prim.Native.Nat.{ℕ, _+_, _-_, _*_, _/_, _^_, _≤_, _<_}
 use mathlib.Core.Logic.{⊎-elim}
-use native.Mathlib.Nat.{div-eq-of-lt, div-lt-iff-lt-mul, mul-le-mul, not-le-of-lt, one-mul}
+use native.Mathlib.Nat.{div-eq-of-lt, div-lt-iff-lt-mul, lt-of-lt-of-le, mul-le-mul, not-le-of-lt, one-mul}
 use native.Mathlib.Omega.{arith}
-use lib.Pow.{pow-pos}
+use lib.Pow.{pow-pos, pow-mono}
 use lib.Dec.{eqb, leb, ltb}
 use lib.ListN.{getD}
 use borrow.Author.Tests.{lt-ltb, le-ltb, le-leb, lt-leb, ltb-false, leb-true, leb-false, eqb-true, eq-eqb, ne-eqb}
 use Rattle.counting.specs.Count.{any}
+use Rattle.counting.specs.Refuse.{Refusal, firstOf}
+use Rattle.counting.specs.Refuse.Refusal.{refuse}
+use Rattle.counting.specs.Sets.{member}
+use Rattle.counting.proofs.Refuse.{passed, accepted, refused-first}
 use Rattle.counting.proofs.Count.{any-none}
 use Rattle.counting.proofs.Bools.{either, not-of-true, not-of-false, cond-true, cond-false, or-none, or-true-left, or-true-right, or-false-left, or-false-right, not-false}
-use Rattle.sizes.specs.Sizes.{outside, tooMany, stray, largestT, tableRows, byN}
+use Rattle.sizes.specs.Sizes.{outside, tooMany, stray, sizeRefusal, largestT, tableRows, byN}
 
 -- refusal 4, both ways
 pub inside : (n : ℕ) → 1 ≤ n → n ≤ 13 → outside n ≡ false
@@ -51,6 +55,10 @@ pub tolerated-lt : (n t : ℕ) → tooMany n t ≡ false → 3 * t < n
 unfolding tooMany
 tolerated-lt n t h = leb-false n (3 * t) h
 
+-- what has 16 bits is below every power of 2 from the sixteenth on
+beyond : (set k : ℕ) → set < 65536 → 16 ≤ k → set < 2 ^ k
+beyond set k small far = lt-of-lt-of-le small (pow-mono far)
+
 -- refusal 6: what a set within n is
 pub within-lt : (n set : ℕ) → stray n set ≡ false → set < 2 ^ n
 unfolding stray
@@ -59,6 +67,46 @@ within-lt n set h = leb-false (2 ^ n) set h
 pub lt-within : (n set : ℕ) → set < 2 ^ n → stray n set ≡ false
 unfolding stray
 lt-within n set h = lt-leb (2 ^ n) set h
+
+-- refusals 4 and 5, where they stand first: they are given, or what follows them decides
+module _ (n t : ℕ) (rest : List Refusal) where
+  pub size-given : (sizeRefusal n t ≡ 0 → ⊥) → firstOf (refuse 4 (outside n) ∷ refuse 5 (tooMany n t) ∷ rest) ≡ sizeRefusal n t
+  unfolding sizeRefusal
+  size-given z = refused-first (refuse 4 (outside n) ∷ refuse 5 (tooMany n t) ∷ []) rest z
+
+  pub size-passed : sizeRefusal n t ≡ 0 → firstOf (refuse 4 (outside n) ∷ refuse 5 (tooMany n t) ∷ rest) ≡ firstOf rest
+  unfolding sizeRefusal
+  size-passed e =
+      let first = accepted 3 (outside n) (refuse 5 (tooMany n t) ∷ []) e in
+      passed 4 _ (first .0) ∙ passed 5 rest (accepted 4 (tooMany n t) [] (first .1) .0)
+
+-- what passes refusals 4 and 5
+pub record Sized (n t : ℕ) : Type 0 where
+  pub low : 1 ≤ n
+  pub high : n ≤ 13
+  pub few : 3 * t < n
+
+pub sized : (n t : ℕ) → sizeRefusal n t ≡ 0 → Sized n t
+unfolding sizeRefusal
+sized n t e =
+    let first = accepted 3 (outside n) (refuse 5 (tooMany n t) ∷ []) e in
+    record {
+      low = inside-low n (first .0);
+      high = inside-high n (first .0);
+      few = tolerated-lt n t (accepted 4 (tooMany n t) [] (first .1) .0);
+    }
+
+pub sized-passes : (n t : ℕ) → Sized n t → sizeRefusal n t ≡ 0
+unfolding sizeRefusal firstOf
+sized-passes n t s = rw (inside n (s .low) (s .high), tolerated n t (s .few)) refl
+
+-- a set has 16 bits: it has none at place 16 or above
+pub no-member : (set k : ℕ) → set < 65536 → 16 ≤ k → member set k ≡ false
+unfolding member
+no-member set k small far = rw (div-eq-of-lt (beyond set k small far)) refl
+
+pub no-stray : (set n : ℕ) → set < 65536 → 16 ≤ n → stray n set ≡ false
+no-stray set n small far = lt-within n set (beyond set n small far)
 
 -- outside 1 to 13 the tables by n give 0
 by-n-outside : (formula : ℕ → ℕ) (n : ℕ) → outside n ≡ true → byN formula n ≡ 0
@@ -75,9 +123,9 @@ pub by-n-inside : (formula : ℕ → ℕ) (n : ℕ) → outside n ≡ false → 
 unfolding byN
 by-n-inside formula n h = cond-false 0 (formula n) h
 
--- a table by n has one reply to each n
-pub by-n-unique : (formula : ℕ → ℕ) (n : ℕ) {r s : ℕ} → r ≡ byN formula n → s ≡ byN formula n → r ≡ s
-by-n-unique formula n p q = p ∙ sym q
+-- a reply that one equation states is unique: so are those of every public function of this crate
+pub one-reply : {A : Type 0} {reply r s : A} → r ≡ reply → s ≡ reply → r ≡ s
+one-reply p q = p ∙ sym q
 
 -- does a table of 13 numbers differ from the formula at place k?
 abbrev pub wrong : List ℕ → (ℕ → ℕ) → ℕ → Bool

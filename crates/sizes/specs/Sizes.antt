@@ -2,11 +2,13 @@
 use Prim.Native.Nat.{ℕ, _+_, _-_, _*_, _/_, _^_}
 use mathlib.Core.Path.{_≡_}
 use mathlib.Core.Bool.{Bool, false, cond, not, _&&_, _||_}
-use mathlib.Core.List.{List}
+use mathlib.Core.List.{List, [], _∷_}
 use lib.Dec.{eqb, leb, ltb}
 use lib.ListN.{length, getD}
 use Rattle.counting.specs.Count.{any}
 use Rattle.counting.specs.Sets.{member}
+use Rattle.counting.specs.Refuse.{firstOf}
+use Rattle.counting.specs.Refuse.Refusal.{refuse}
 
 -- refusal 4: n outside 1 to 13
 unfoldable pub outside : ℕ → Bool
@@ -19,6 +21,10 @@ tooMany n t = leb n (3 * t)
 -- refusal 6: the set has a bit at place n or above
 unfoldable pub stray : ℕ → ℕ → Bool
 stray n set = leb (2 ^ n) set
+
+-- refusals 4 and 5, of n boxes, or n rows, and t
+unfoldable pub sizeRefusal : ℕ → ℕ → ℕ
+sizeRefusal n t = firstOf (refuse 4 (outside n) ∷ refuse 5 (tooMany n t) ∷ [])
 
 -- is box j sound, that is, not named faulty?
 unfoldable pub sound : ℕ → ℕ → Bool

@@ -1,8 +1,8 @@
 -- The replies by cases: what a refused call gives, and what one gives that is not refused. Assumes nothing.
 use mathlib.Core.Path.{_≡_, refl, sym, ap, _∙_}
-use mathlib.Core.Bool.{Bool, true, false, cond, not}
+use mathlib.Core.Bool.{cond, not}
 use mathlib.Core.List.{List, [], _∷_}
-use Prim.Native.Nat.{ℕ, _*_, _≤_, _<_}
+use Prim.Native.Nat.{ℕ, _≤_}
 use lib.Dec.{eqb}
 use lib.ListN.{length}
 use borrow.Author.Tests.{ne-eqb, eq-eqb, eqb-true}
@@ -11,47 +11,26 @@ use Rattle.counting.specs.Refuse.Refusal.{refuse}
 use Rattle.counting.specs.Most.{most}
 use Rattle.counting.proofs.Bools.{not-false, cond-true, cond-false}
 use Rattle.counting.proofs.Refuse.{accepted}
-use Rattle.sizes.specs.Sizes.{outside, tooMany}
-use Rattle.sizes.proofs.Laws.{inside-low, inside-high, tolerated-lt}
+use Rattle.sizes.specs.Sizes.{outside}
+use Rattle.sizes.specs.Sizes.{sizeRefusal}
+use Rattle.sizes.proofs.Laws.{inside-low, inside-high, size-given, size-passed}
 use Rattle.tally.specs.declared.Voted.{Voted}
 use Rattle.tally.specs.declared.Graded.{Graded}
 use Rattle.tally.specs.declared.Chosen.{Chosen}
 use Rattle.tally.specs.declared.Lead.{Lead}
 use Rattle.tally.specs.Tally.{confidenceAt, supportOf, counted, firmFor, twoRows, voteOf, gradedRow, confidenceOf, chosenRow, firmLeaders}
-use Rattle.tally.specs.Reply.{leadOf, gradeRefusal, voteRefusal, choiceRefusal, unless, voteReply, gradeReply, choiceReply}
-
--- what passes refusals 4 and 5
-pub record Sized (n t : ℕ) : Type 0 where
-  pub low : 1 ≤ n
-  pub high : n ≤ 13
-  pub few : 3 * t < n
-
-pub sized : (n t : ℕ) → gradeRefusal n t ≡ 0 → Sized n t
-unfolding gradeRefusal
-sized n t e =
-    let first = accepted 3 (outside n) (refuse 5 (tooMany n t) ∷ []) e in
-    let second = accepted 4 (tooMany n t) [] (first .1) in
-    record { low = inside-low n (first .0); high = inside-high n (first .0); few = tolerated-lt n t (second .0) }
+use Rattle.tally.specs.Reply.{leadOf, voteRefusal, choiceRefusal, unless, voteReply, gradeReply, choiceReply}
 
 module _ (xs : List ℕ) (t : ℕ) where
   -- a vote that passes 4 and 5 is refused by 7 alone
-  pub vote-passes : gradeRefusal (length xs) t ≡ 0 → voteRefusal t xs ≡ cond (twoRows t xs) 7 0
-  unfolding gradeRefusal voteRefusal firstOf
-  vote-passes e =
-      let first = accepted 3 (outside (length xs)) (refuse 5 (tooMany (length xs) t) ∷ []) e in
-      let second = accepted 4 (tooMany (length xs) t) [] (first .1) in
-      rw (first .0, second .0) refl
+  pub vote-passes : sizeRefusal (length xs) t ≡ 0 → voteRefusal t xs ≡ cond (twoRows t xs) 7 0
+  unfolding voteRefusal firstOf
+  vote-passes e = size-passed (length xs) t (refuse 7 (twoRows t xs) ∷ []) e
 
   -- and one that is refused by 4 or 5 has that number
-  pub vote-fails : (gradeRefusal (length xs) t ≡ 0 → ⊥) → voteRefusal t xs ≡ gradeRefusal (length xs) t
-  unfolding gradeRefusal voteRefusal firstOf
-  vote-fails h = go (outside (length xs)) refl (tooMany (length xs) t) refl
-    where
-      go : (a : Bool) → outside (length xs) ≡ a → (b : Bool) → tooMany (length xs) t ≡ b →
-          voteRefusal t xs ≡ gradeRefusal (length xs) t
-      go true e b f = rw e refl
-      go false e true f = rw (e, f) refl
-      go false e false f = absurd (h (rw (e, f) refl))
+  pub vote-fails : (sizeRefusal (length xs) t ≡ 0 → ⊥) → voteRefusal t xs ≡ sizeRefusal (length xs) t
+  unfolding voteRefusal
+  vote-fails h = size-given (length xs) t (refuse 7 (twoRows t xs) ∷ []) h
 
   pub vote-refused : (r : ℕ) → r ≡ voteRefusal t xs → (r ≡ 0 → ⊥) →
       _≡_ {A = Voted} (record { refusal = r; row = 0 }) (voteReply xs t)
@@ -63,12 +42,12 @@ module _ (xs : List ℕ) (t : ℕ) where
   unfolding voteReply unless
   vote-taken row e h = rw (e, h) refl
 
-  pub grade-refused : (r : ℕ) → r ≡ gradeRefusal (length xs) t → (r ≡ 0 → ⊥) →
+  pub grade-refused : (r : ℕ) → r ≡ sizeRefusal (length xs) t → (r ≡ 0 → ⊥) →
       _≡_ {A = Graded} (record { refusal = r; row = 0; confidence = 0 }) (gradeReply xs t)
   unfolding gradeReply unless
   grade-refused r e h = rw (← e, ne-eqb r 0 h) refl
 
-  pub grade-taken : (row confidence : ℕ) → gradeRefusal (length xs) t ≡ 0 → row ≡ gradedRow t xs →
+  pub grade-taken : (row confidence : ℕ) → sizeRefusal (length xs) t ≡ 0 → row ≡ gradedRow t xs →
       confidence ≡ confidenceOf t xs →
       _≡_ {A = Graded} (record { refusal = 0; row = row; confidence = confidence }) (gradeReply xs t)
   unfolding gradeReply unless

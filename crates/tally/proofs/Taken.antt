@@ -11,14 +11,14 @@ use borrow.Author.Tests.{eq-eqb, le-ltb}
 use Rattle.counting.specs.Refuse.{firstOf}
 use Rattle.counting.proofs.Bools.{not-of-true, cond-false}
 use Rattle.counting.proofs.Count.{none-any}
-use Rattle.sizes.proofs.Laws.{inside, tolerated}
+use Rattle.sizes.proofs.Laws.{inside, Sized, sized-passes}
 use Rattle.tally.specs.declared.Voted.{Voted}
 use Rattle.tally.specs.declared.Graded.{Graded}
 use Rattle.tally.specs.declared.Chosen.{Chosen}
 use Rattle.tally.specs.Tally.{carried, voteOf, twoRows, confidenceOf, gradedRow, chosenRow, above2}
-use Rattle.tally.specs.Reply.{gradeRefusal, choiceRefusal, voteReply, gradeReply, choiceReply}
+use Rattle.tally.specs.Reply.{choiceRefusal, voteReply, gradeReply, choiceReply}
 use Rattle.tally.proofs.Laws.{carried-is, carried-one}
-use Rattle.tally.proofs.Replies.{Sized, vote-passes, vote-taken, grade-taken, choice-taken}
+use Rattle.tally.proofs.Replies.{vote-passes, vote-taken, grade-taken, choice-taken}
 
 -- no two different rows stand n − t times each
 pub never-two : (t : ℕ) (xs : List ℕ) → 3 * t < length xs → twoRows t xs ≡ false
@@ -36,10 +36,6 @@ never-two t xs h = none-any (length xs) _ (λ i bi. none-any (length xs) _ (λ j
         not-of-true
         (eq-eqb (getD xs i 0) (getD xs j 0)
         (carried-one t xs h (getD xs i 0) (getD xs j 0) (carried-is t xs (getD xs i 0) e) (carried-is t xs (getD xs j 0) f)))
-
-pub sized-passes : (n t : ℕ) → Sized n t → gradeRefusal n t ≡ 0
-unfolding gradeRefusal firstOf
-sized-passes n t s = rw (inside n (s .low) (s .high), tolerated n t (s .few)) refl
 
 module _ (xs : List ℕ) (t : ℕ) (s : Sized (length xs) t) where
   pub vote-row : voteReply xs t .row ≡ voteOf t xs

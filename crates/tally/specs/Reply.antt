@@ -8,16 +8,12 @@ use lib.ListN.{length}
 use Rattle.counting.specs.Most.{support}
 use Rattle.counting.specs.Refuse.{firstOf}
 use Rattle.counting.specs.Refuse.Refusal.{refuse}
-use Rattle.sizes.specs.Sizes.{outside, tooMany}
+use Rattle.sizes.specs.Sizes.{outside, tooMany, sizeRefusal}
 use Rattle.tally.specs.declared.Voted.{Voted}
 use Rattle.tally.specs.declared.Graded.{Graded}
 use Rattle.tally.specs.declared.Chosen.{Chosen}
 use Rattle.tally.specs.declared.Lead.{Lead}
 use Rattle.tally.specs.Tally.{twoRows, voteOf, gradedRow, confidenceOf, chosenRow, firmLeaders, above2}
-
--- the refusals of a grade of n rows: 4, 5
-unfoldable pub gradeRefusal : ℕ → ℕ → ℕ
-gradeRefusal n t = firstOf (refuse 4 (outside n) ∷ refuse 5 (tooMany n t) ∷ [])
 
 -- the refusals of a vote: 4, 5, 7
 unfoldable pub voteRefusal : ℕ → List ℕ → ℕ
@@ -46,13 +42,13 @@ unless refusal answer = cond (eqb refusal 0) answer 0
 unfoldable pub voteReply : List ℕ → ℕ → Voted
 voteReply xs t = record { refusal = voteRefusal t xs; row = unless (voteRefusal t xs) (voteOf t xs) }
 
--- a grade's whole reply: refusal, row and confidence
+-- a grade's whole reply: refusal, 4 or 5, row and confidence
 unfoldable pub gradeReply : List ℕ → ℕ → Graded
 gradeReply xs t =
     record {
-      refusal = gradeRefusal (length xs) t;
-      row = unless (gradeRefusal (length xs) t) (gradedRow t xs);
-      confidence = unless (gradeRefusal (length xs) t) (confidenceOf t xs);
+      refusal = sizeRefusal (length xs) t;
+      row = unless (sizeRefusal (length xs) t) (gradedRow t xs);
+      confidence = unless (sizeRefusal (length xs) t) (confidenceOf t xs);
     }
 
 -- a choice's whole reply: refusal, row and the number of confidence-2 leaders

@@ -6,7 +6,7 @@ ghost use lib.ListN.{length, take};
 ghost use lib.Dec.{eqb, ltb};
 ghost use Rattle.counting.specs.Most.{places, support, before, most};
 ghost use Rattle.tally.specs.Tally.{carried, voteOf, confidenceAt, counted, firmFor, above2};
-ghost use Rattle.tally.specs.Reply.{gradeRefusal, voteReply, leadOf, gradeReply, choiceRefusal, choiceReply};
+ghost use Rattle.tally.specs.Reply.{voteReply, leadOf, gradeReply, choiceRefusal, choiceReply};
 
 // The reply of a vote: the row that stands at least n − t times, or 0.
 pub struct Voted {
@@ -32,22 +32,6 @@ pub struct Chosen {
 pub struct Lead {
     pub row: u64,
     pub support: usize,
-}
-
-// Refusals 4 and 5, which every call over n rows and t can meet.
-fn size_refusal(n: usize, t: u8) -> u8
-    ensures { λ r. ⌜ r ≡ gradeRefusal n t ⌝ }
-{
-    if n < 1 {
-        return 4;
-    }
-    if 13 < n {
-        return 4;
-    }
-    if n <= 3 * (t as usize) {
-        return 5;
-    }
-    0
 }
 
 // 1 where the two rows are the same, else 0.
@@ -100,7 +84,7 @@ fn vote_of(rows: &[u64], t: u8) -> u64
 pub fn vote(rows: &[u64], t: u8) -> Voted
     ensures { λ r. ⌜ r ≡ voteReply (now (rows .entry)) t ⌝ }
 {
-    let refusal = size_refusal(rows.len(), t);
+    let refusal = sizes::size_refusal(rows.len(), t);
     if refusal != 0 {
         return Voted { refusal, row: 0 };
     }
@@ -172,7 +156,7 @@ fn confidence_at(support: usize, t: u8) -> u8
 pub fn grade(rows: &[u64], t: u8) -> Graded
     ensures { λ r. ⌜ r ≡ gradeReply (now (rows .entry)) t ⌝ }
 {
-    let refusal = size_refusal(rows.len(), t);
+    let refusal = sizes::size_refusal(rows.len(), t);
     if refusal != 0 {
         return Graded {
             refusal,

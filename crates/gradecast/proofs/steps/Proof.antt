@@ -1,66 +1,21 @@
--- `gradecast::steps` meets its contract: the cells of step 2 and of step 3 are the document's V and Y, the grades over them are step 4's, and
--- the messages are counted over the cells. Assumes nothing.
-use Rattle.gradecast.proofs.Sent.{cast-is}
+-- `gradecast::steps` meets its contract: it refuses with zeros, and else gives what all steps find. Assumes nothing.
+use mathlib.Core.Path.{sym, _∙_}
+use Rattle.gradecast.proofs.Replies.{steps-few, steps-ready, cast-refused, cast-taken}
 use borrow.Author.Needs.{needs}
 use Rattle.gradecast.proofs.steps.Statement.{statement}
 use Rattle.gradecast.proofs.steps.Tie as tie
 
-slice-aggregate-step1 : tie.Need-slice-aggregate-step1
-slice-aggregate-step1 c = search needs
-
-step1-requires : tie.Need-step1-requires
-step1-requires c κs = search needs
-
-slice-aggregate-step3 : tie.Need-slice-aggregate-step3
-slice-aggregate-step3 c = search needs
-
-slice-aggregate-step3-2 : tie.Need-slice-aggregate-step3-2
-slice-aggregate-step3-2 c = search needs
-
-step3-requires : tie.Need-step3-requires
-step3-requires c κs = search needs
-
-slice-aggregate-messages-of : tie.Need-slice-aggregate-messages-of
-slice-aggregate-messages-of c = search needs
-
-slice-aggregate-messages-of-2 : tie.Need-slice-aggregate-messages-of-2
-slice-aggregate-messages-of-2 c = search needs
-
-messages-of-requires : tie.Need-messages-of-requires
-messages-of-requires c κs = search needs
-
-slice-aggregate-step4 : tie.Need-slice-aggregate-step4
-slice-aggregate-step4 c = search needs
-
-slice-aggregate-step4-2 : tie.Need-slice-aggregate-step4-2
-slice-aggregate-step4-2 c = search needs
-
-slice-aggregate-step4-3 : tie.Need-slice-aggregate-step4-3
-slice-aggregate-step4-3 c = search needs
-
-step4-requires : tie.Need-step4-requires
-step4-requires c κs = search needs
+steps-refusal-requires : tie.Need-steps-refusal-requires
+steps-refusal-requires c κs = search needs
 
 returns : tie.Need-returns
-returns c =
-    let second = c .before .before .before .before .before .before .before .before .before .before .before .before .before .before .before .before .before .before .step1 .ensures in
-    let third = c .before .before .before .before .before .before .before .before .before .before .before .before .before .step3 .ensures _ second in
-    cast-is _ _ _ _ _ _ _ (c .before .before .before .before .before .before .before .before .messages-of .ensures _ _ _ second third) (c .before .before .before .step4 .ensures _ third)
+returns c = cast-refused _ _ _ _ _ _ _ (c .before .steps-refusal .ensures) (c .if1 .taken)
+
+all-steps-requires : tie.Need-all-steps-requires
+all-steps-requires c κs = let e = sym (c .before .steps-refusal .ensures) ∙ c .if1 .left in (steps-ready _ _ _ e, steps-few _ _ _ e)
+
+returns-2 : tie.Need-returns-2
+returns-2 c = c .all-steps .ensures ∙ cast-taken _ _ _ _ _ _ (sym (c .before .before .steps-refusal .ensures) ∙ c .before .if1 .left)
 
 pub steps-spec : {M : Type 1} → statement M
-steps-spec =
-    tie.close
-    (tie.spec
-    slice-aggregate-step1
-    step1-requires
-    slice-aggregate-step3
-    slice-aggregate-step3-2
-    step3-requires
-    slice-aggregate-messages-of
-    slice-aggregate-messages-of-2
-    messages-of-requires
-    slice-aggregate-step4
-    slice-aggregate-step4-2
-    slice-aggregate-step4-3
-    step4-requires
-    returns)
+steps-spec = tie.close (tie.spec steps-refusal-requires returns all-steps-requires returns-2)

@@ -1,59 +1,28 @@
--- `inout::put_line` meets its contract: the line is written at the front of what lies from the place on, and its size lies within that.
--- Assumes nothing.
-use Prim.Native.Nat.{ℕ, _+_, _-_, _≤_}
-use mathlib.Core.Path.{_≡_, ap, _∙_}
-use mathlib.Core.List.{List, _++_}
+-- `inout::put_line` meets its contract: behind the text there is no room for a line; within it the line is put there. Assumes nothing.
+use Prim.Native.Nat.{_-_}
 use native.Mathlib.Omega.{arith}
-use lib.ListN.{length, take, length-drop}
-use Rattle.listing.specs.declared.Written.{Written}
-use Rattle.listing.specs.Line.{lineReply, lineWrites}
-use Rattle.inout.proofs.Laws.{line-fits, rest-whole, rest-none}
+use lib.ListN.{length}
+use Rattle.inout.proofs.Laws.{line-fits, line-beyond}
 use borrow.Author.Needs.{needs}
 use Rattle.inout.proofs.put_line.Statement.{statement}
 use Rattle.inout.proofs.put_line.Tie as tie
 
-abbrev text-of : tie.After-write-line → List ℕ
-text-of c = c .before .before .before .before .before .args .text .now
+returns : tie.Need-returns
+returns c =
+    let a = c .before .before .before .before .args in
+    let fits = line-fits (a .word .now) (a .numbers .now) (length (a .text .now) - a .at) in
+    (omega (arith, fits), (omega arith, line-beyond (a .word .now) (a .numbers .now) (a .text .now) (a .at) (omega arith)))
 
-is : (c : tie.After-write-line) → c .write-line .result .size ≡ lineReply (c .before .before .before .before .before .args .word .now) (c .before .before .before .before .before .args .numbers .now) (length (text-of c) - c .before .before .before .before .before .args .at) .size
-is c =
-    ap (λ (w : Written). w .size) (c .write-line .ensures .0)
-    ∙ ap (λ (k : ℕ). lineReply (c .before .before .before .before .before .args .word .now) (c .before .before .before .before .before .args .numbers .now) k .size) (ap length (rest-whole (text-of c) (c .before .before .before .before .before .args .at)) ∙ length-drop (c .before .before .before .before .before .args .at) (text-of c))
-
-within : (c : tie.After-write-line) → c .before .before .before .before .before .args .at + c .write-line .result .size ≤ length (text-of c)
-within c =
-    let fits = line-fits (c .before .before .before .before .before .args .word .now) (c .before .before .before .before .before .args .numbers .now) (length (text-of c) - c .before .before .before .before .before .args .at) in
-    omega (arith, is c, fits, c .before .before .before .before .before .pre)
-
-sub-write-line : tie.Need-sub-write-line
-sub-write-line c = search needs
-
-part-write-line-start : tie.Need-part-write-line-start
-part-write-line-start c = search needs
-
-part-write-line-end : tie.Need-part-write-line-end
-part-write-line-end c = search needs
-
-write-line-requires : tie.Need-write-line-requires
-write-line-requires c κs = search needs
-
-add-result : tie.Need-add-result
-add-result c = omega (arith, within (c .before .before .before))
+put-within-requires : tie.Need-put-within-requires
+put-within-requires c κs = search needs
 
 same-length : tie.Need-same-length
 same-length c = search needs
 
-returns : tie.Need-returns
-returns c = (ap (λ (k : ℕ). c .before .before .before .before .before .before .before .before .args .at + k) (is (c .before .before .before)), (within (c .before .before .before), ap (λ (ys : List ℕ). take (c .before .before .before .before .before .before .before .before .args .at) (c .before .before .before .before .before .before .before .before .args .text .now) ++ ys) (rest-none (c .before .before .before .before .before .before .before .before .args .text .now) (c .before .before .before .write-line .last .0) (c .before .before .before .before .before .before .before .before .args .at) ∙ c .before .before .before .write-line .ensures .1 ∙ ap (lineWrites (c .before .before .before .before .before .before .before .before .args .word .now) (c .before .before .before .before .before .before .before .before .args .numbers .now)) (rest-whole (c .before .before .before .before .before .before .before .before .args .text .now) (c .before .before .before .before .before .before .before .before .args .at)))))
+returns-2 : tie.Need-returns-2
+returns-2 c =
+    let put = c .before .before .put-within .ensures in
+    (put .0, (omega (arith, put .1 .0), put .1 .1))
 
 pub put-line-spec : {M : Type 1} → statement M
-put-line-spec =
-    tie.close
-    (tie.spec
-    sub-write-line
-    part-write-line-start
-    part-write-line-end
-    write-line-requires
-    add-result
-    same-length
-    returns)
+put-line-spec = tie.close (tie.spec returns put-within-requires same-length returns-2)

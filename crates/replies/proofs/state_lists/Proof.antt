@@ -24,9 +24,6 @@ add-number2 c = search needs
 number2-requires : tie.Need-number2-requires Inv-loop μ-loop
 number2-requires c κs = search needs
 
-cast-lists : tie.Need-cast-lists Inv-loop μ-loop
-cast-lists c = search needs
-
 mul-lists : tie.Need-mul-lists Inv-loop μ-loop
 mul-lists c = search needs
 
@@ -55,7 +52,6 @@ state-lists-spec =
     mul-number2
     add-number2
     number2-requires
-    cast-lists
     mul-lists
     array-write-lists
     add-i

@@ -15,14 +15,14 @@ abbrev μ-loop : tie.MeasureT-loop
 loop-holds : tie.Need-loop-holds Inv-loop μ-loop
 loop-holds c = search needs
 
-mul-number8 : tie.Need-mul-number8 Inv-loop μ-loop
-mul-number8 c = search needs
+mul-number : tie.Need-mul-number Inv-loop μ-loop
+mul-number c = search needs
 
-add-number8 : tie.Need-add-number8 Inv-loop μ-loop
-add-number8 c = search needs
+add-number : tie.Need-add-number Inv-loop μ-loop
+add-number c = search needs
 
-number8-requires : tie.Need-number8-requires Inv-loop μ-loop
-number8-requires c κs = search needs
+number-requires : tie.Need-number-requires Inv-loop μ-loop
+number-requires c κs = search needs
 
 mul-rows : tie.Need-mul-rows Inv-loop μ-loop
 mul-rows c = search needs
@@ -49,9 +49,9 @@ state-rows-spec =
     Inv-loop
     μ-loop
     loop-holds
-    mul-number8
-    add-number8
-    number8-requires
+    mul-number
+    add-number
+    number-requires
     mul-rows
     array-write-rows
     add-i

@@ -27,11 +27,11 @@ returns c = search needs
 loop-holds : tie.Need-loop-holds Inv-loop μ-loop
 loop-holds c = search needs
 
-mul-number8 : tie.Need-mul-number8 Inv-loop μ-loop
-mul-number8 c = search needs
+mul-number : tie.Need-mul-number Inv-loop μ-loop
+mul-number c = search needs
 
-number8-requires : tie.Need-number8-requires Inv-loop μ-loop
-number8-requires c κs = search needs
+number-requires : tie.Need-number-requires Inv-loop μ-loop
+number-requires c κs = search needs
 
 mul-rows : tie.Need-mul-rows Inv-loop μ-loop
 mul-rows c = search needs
@@ -68,8 +68,8 @@ take-rows-spec =
     same-length
     returns
     loop-holds
-    mul-number8
-    number8-requires
+    mul-number
+    number-requires
     mul-rows
     slice-write-rows
     add-k

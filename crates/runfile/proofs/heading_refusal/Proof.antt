@@ -151,7 +151,7 @@ cast-faulty : tie.Need-cast-faulty
 cast-faulty c = search needs
 
 is-stray-requires : tie.Need-is-stray-requires
-is-stray-requires c κs = inside-high _ (inside-of (c .before .before .before .before))
+is-stray-requires c κs = search needs
 
 returns-6 : tie.Need-returns-6
 unfolding headingTests nOf

@@ -1,14 +1,19 @@
--- `sizes::is_stray` meets its contract: a set shifted by n is 0 exactly where it is below 2 ^ n. Assumes nothing.
-use Rattle.sizes.proofs.Laws.{shifted}
+-- `sizes::is_stray` meets its contract: a set shifted by n is 0 exactly where it is below 2 ^ n, and 16 bits are below 2 ^ 16. Assumes nothing.
+use mathlib.Core.Path.{sym}
+use native.Mathlib.Omega.{arith}
+use Rattle.sizes.proofs.Laws.{shifted, no-stray}
 use borrow.Author.Needs.{needs}
 use Rattle.sizes.proofs.is_stray.Statement.{statement}
 use Rattle.sizes.proofs.is_stray.Tie as tie
 
+returns : tie.Need-returns
+returns c = sym (no-stray (c .before .args .set) (c .before .args .n) (search needs) (omega arith))
+
 shr-result : tie.Need-shr-result
 shr-result c = search needs
 
-returns : tie.Need-returns
-returns c = shifted _ _
+returns-2 : tie.Need-returns-2
+returns-2 c = shifted _ _
 
 pub is-stray-spec : {M : Type 1} → statement M
-is-stray-spec = tie.close (tie.spec shr-result returns)
+is-stray-spec = tie.close (tie.spec returns shr-result returns-2)

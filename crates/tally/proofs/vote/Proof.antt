@@ -2,7 +2,8 @@
 use mathlib.Core.Path.{sym, _∙_}
 use lib.ListN.{length}
 use Rattle.counting.proofs.Bools.{cond-false}
-use Rattle.tally.proofs.Replies.{sized, vote-passes, vote-fails, vote-refused, vote-taken}
+use Rattle.sizes.proofs.Laws.{sized}
+use Rattle.tally.proofs.Replies.{vote-passes, vote-fails, vote-refused, vote-taken}
 use Rattle.tally.proofs.Taken.{never-two}
 use borrow.Author.Needs.{needs}
 use Rattle.tally.proofs.vote.Statement.{statement}

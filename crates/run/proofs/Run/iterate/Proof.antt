@@ -4,7 +4,7 @@ use mathlib.Core.Path.{sym, _∙_}
 use native.Mathlib.Omega.{arith}
 use Rattle.run.proofs.Accepted.{Accepted, is-accepted}
 use Rattle.run.proofs.Refusals.{iterate-refused, iterate-taken}
-use Rattle.run.proofs.Whole.{high, few, ready, done-small, sent-small, grades, cast-sized, next-is}
+use Rattle.run.proofs.Whole.{high, done-small, sent-small, grades, cast-sized, next-is}
 use borrow.Author.Needs.{needs}
 use Rattle.run.proofs.Run.iterate.Statement.{statement}
 use Rattle.run.proofs.Run.iterate.Tie as tie
@@ -23,7 +23,7 @@ cast-steps : tie.Need-cast-steps
 cast-steps c = search needs
 
 steps-requires : tie.Need-steps-requires
-steps-requires c κs = let a = accepted (c .before .before .before .before .before) in (ready _ _ a, few _ _ a)
+steps-requires c κs = search needs
 
 step5-rows-requires : tie.Need-step5-rows-requires
 step5-rows-requires c κs = cast-sized _ _ (accepted (c .before .before .before .before .before .before .before .before .before .before .before)) _ (c .before .before .before .before .before .steps .ensures)

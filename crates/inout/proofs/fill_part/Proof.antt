@@ -1,4 +1,4 @@
--- `inout::fill` meets its contract: the part from the place to the end has that many bytes, no more of them come, and only they are written.
+-- `inout::fill_part` meets its contract: the part from the place to the end has that many bytes, no more of them come, and only they are written.
 -- Assumes nothing.
 use Prim.Native.Nat.{_+_, _-_, _≤_}
 use mathlib.Core.Path.{_≡_, _∙_}
@@ -7,8 +7,8 @@ use lib.ListN.{length, drop, length-drop}
 use lib.Seq.{length-take-le}
 use borrow.Rule.Slice.PartMut.{take-put, drop-put}
 use borrow.Author.Needs.{needs}
-use Rattle.inout.proofs.fill.Statement.{statement}
-use Rattle.inout.proofs.fill.Tie as tie
+use Rattle.inout.proofs.fill_part.Statement.{statement}
+use Rattle.inout.proofs.fill_part.Tie as tie
 
 as-many : (c : tie.After-read-full) → length (c .read-full .last .1 .0) ≡ c .before .before .before .args .end - c .before .before .before .args .at
 as-many c =
@@ -39,8 +39,8 @@ same-length c = search needs
 returns : tie.Need-returns
 returns c = ((omega arith, within (c .before .before)), (take-put (c .before .before .before .before .before .args .at) (c .before .before .before .before .before .args .end - c .before .before .before .before .before .args .at) (c .before .before .before .before .before .args .bytes .now) (c .before .before .read-full .last .1 .0) (omega (arith, c .before .before .before .before .before .pre)), drop-put (c .before .before .before .before .before .args .at) (c .before .before .before .before .before .args .end) (c .before .before .before .before .before .args .bytes .now) (c .before .before .read-full .last .1 .0) (c .before .before .before .before .before .pre .0) (c .before .before .before .before .before .pre .1) (as-many (c .before .before))))
 
-pub fill-spec : {M : Type 1} → statement M
-fill-spec =
+pub fill-part-spec : {M : Type 1} → statement M
+fill-part-spec =
     tie.close
     (tie.spec
     sub-read-full

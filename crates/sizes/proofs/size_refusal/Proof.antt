@@ -1,33 +1,33 @@
--- `tally::size_refusal` meets its contract: it makes the tests of refusals 4 and 5 in their order. Assumes nothing.
+-- `sizes::size_refusal` meets its contract: it makes the tests of refusals 4 and 5 in their order. Assumes nothing.
 use mathlib.Core.Path.{sym, _∙_}
 use borrow.Author.Needs.{needs}
 use Rattle.counting.specs.Refuse.{firstOf}
 use Rattle.counting.proofs.Refuse.{refused, passed}
 use Rattle.sizes.proofs.Laws.{inside, outside-low, outside-high, tolerated, not-tolerated}
-use Rattle.tally.specs.Reply.{gradeRefusal}
-use Rattle.tally.proofs.size_refusal.Statement.{statement}
-use Rattle.tally.proofs.size_refusal.Tie as tie
+use Rattle.sizes.specs.Sizes.{sizeRefusal}
+use Rattle.sizes.proofs.size_refusal.Statement.{statement}
+use Rattle.sizes.proofs.size_refusal.Tie as tie
 
 returns : tie.Need-returns
-unfolding gradeRefusal
+unfolding sizeRefusal
 returns c = sym (refused 4 _ (outside-low (c .before .args .n) (c .if1 .taken)))
 
 returns-2 : tie.Need-returns-2
-unfolding gradeRefusal
+unfolding sizeRefusal
 returns-2 c = sym (refused 4 _ (outside-high (c .before .before .args .n) (c .if2 .taken)))
 
 mul-if3 : tie.Need-mul-if3
 mul-if3 c = search needs
 
 returns-3 : tie.Need-returns-3
-unfolding gradeRefusal
+unfolding sizeRefusal
 returns-3 c =
     sym
     (passed 4 _ (inside (c .before .before .before .args .n) (search needs) (search needs))
     ∙ refused 5 _ (not-tolerated (c .before .before .before .args .n) (c .before .before .before .args .t) (search needs)))
 
 returns-4 : tie.Need-returns-4
-unfolding gradeRefusal firstOf
+unfolding sizeRefusal firstOf
 returns-4 c =
     rw (
       inside (c .before .before .before .args .n) (search needs) (search needs),
