@@ -13,8 +13,8 @@ use lib.Seq.{getD-take, getD-drop, length-take-le}
 use Rattle.sizes.proofs.Laws.{square-le}
 use Rattle.counting.specs.Count.{build}
 use Rattle.counting.proofs.Build.{built, front-none, front-turn, front-stays, front-length, front-at}
-use Rattle.gradecast.specs.Cast.{cells}
-use Rattle.gradecast.specs.Inside.{cellsTo, PutTo}
+use Rattle.gradecast.specs.Cast.{cells, cellsTo}
+use Rattle.gradecast.specs.Inside.{PutTo}
 use Rattle.gradecast.proofs.Places.{two-digits}
 
 -- row i lies within the 169 places
@@ -38,11 +38,11 @@ part-built n i g xs high below l h =
 
 module _ (n : ℕ) (f : ℕ → ℕ → ℕ) where
   pub length-cells : n ≤ 13 → length (cells n f) ≡ 169
-  unfolding cells
+  unfolding cells cellsTo
   length-cells high = front-length (n * n) (λ p. f (p / n) (p % n)) (replicate 169 0) (square-le high)
 
   pub cells-at : (i k : ℕ) → i < n → k < n → getD (cells n f) (i * n + k) 0 ≡ f i k
-  unfolding cells
+  unfolding cells cellsTo
   cells-at i k hi hk =
       front-at (n * n) (λ p. f (p / n) (p % n)) (replicate 169 0) (i * n + k) (two-digits hi hk)
       ∙ ap₂ f (digits-div i hk) (digits-mod i hk)
@@ -98,5 +98,5 @@ pub box-turn : (n i : ℕ) (f : ℕ → ℕ → ℕ) {out last : List ℕ} → o
 box-turn n i f e p = p f (λ k l. refl) e ∙ ap (λ (m : ℕ). cellsTo m n f) (row-after n i)
 
 pub box-whole : {n i : ℕ} (f : ℕ → ℕ → ℕ) {out : List ℕ} → i ≡ n → out ≡ cellsTo (i * n) n f → out ≡ cells n f
-unfolding cells cellsTo
+unfolding cells
 box-whole {n} f h e = e ∙ ap (λ (m : ℕ). cellsTo (m * n) n f) h

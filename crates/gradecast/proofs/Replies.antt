@@ -16,7 +16,8 @@ use Rattle.sizes.specs.Sizes.{outside, tooMany, sizeRefusal, tableRows, byN}
 use Rattle.sizes.proofs.Laws.{inside, inside-low, inside-high, tolerated-lt, by-n-inside, sized, sized-passes, size-given, size-passed}
 use Rattle.gradecast.specs.declared.Cast.{Cast}
 use Rattle.gradecast.specs.Steps.{gradeRow, confidence, messages}
-use Rattle.gradecast.specs.Cast.{Ready, ofSound, cells, castOf, castRefusal, noCast, castReply}
+use Rattle.gradecast.specs.Cast.{ofSound, cells, castOf, castRefusal, noCast, castReply}
+use Rattle.gradecast.specs.Inside.{Ready}
 
 module _ (n t : ℕ) (table : List ℕ) where
   -- the test behind 4 and 5

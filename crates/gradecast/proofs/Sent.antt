@@ -16,7 +16,7 @@ use Rattle.counting.proofs.Build.{front-take, length-build, getD-build}
 use Rattle.counting.proofs.Count.{count-ext, count-none, count-rows, count-sum, sum-ext, sum-add}
 use Rattle.sizes.specs.Sizes.{sound}
 use Rattle.gradecast.specs.Steps.{heard1, voted, messages}
-use Rattle.gradecast.specs.Cast.{ofSound, cells}
+use Rattle.gradecast.specs.Cast.{ofSound, cellsTo, cells}
 use Rattle.gradecast.specs.Inside.{SaidSecond, SaidThird}
 use Rattle.gradecast.proofs.Messages.{sentByOne, messages-quick}
 
@@ -27,7 +27,7 @@ filled xs = count (length xs) (λ k. not (eqb (getD xs k 0) 0))
 -- the cells of n rows of n that are not 0, row by row
 pub filled-cells : (n faulty : ℕ) (f : ℕ → ℕ → ℕ) (xs : List ℕ) → xs ≡ cells n (ofSound faulty f) →
     filled (take (n * n) xs) ≡ sum n (λ j. cond (sound faulty j) (count n (λ k. not (eqb (f j k) 0))) 0)
-unfolding cells ofSound
+unfolding cells cellsTo ofSound
 filled-cells n faulty f xs e =
     ap (λ (ys : List ℕ). filled (take (n * n) ys)) e
     ∙ ap filled (front-take (n * n) cell (replicate 169 0))

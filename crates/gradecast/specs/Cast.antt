@@ -1,6 +1,5 @@
 -- Steps 1 to 4 as one reply: the messages, and what every sound box makes of every leader.
-use Prim.Native.Nat.{ℕ, _*_, _/_, _%_, _≤_}
-use mathlib.Core.Path.{_≡_}
+use Prim.Native.Nat.{ℕ, _*_, _/_, _%_}
 use mathlib.Core.Bool.{cond, not}
 use mathlib.Core.List.{List, [], _∷_}
 use lib.Dec.{eqb}
@@ -16,15 +15,13 @@ use Rattle.gradecast.specs.Steps.{gradeRow, confidence, messages}
 unfoldable pub ofSound : ℕ → (ℕ → ℕ → ℕ) → ℕ → ℕ → ℕ
 ofSound faulty f i k = cond (sound faulty i) (f i k) 0
 
--- n rows of n numbers in 169 places: f i k stands at place i * n + k
-unfoldable pub cells : ℕ → (ℕ → ℕ → ℕ) → List ℕ
-cells n f = front (n * n) (λ p. f (p / n) (p % n)) (replicate 169 0)
+-- n rows of n numbers in 169 places, of which the first q are there: f i k stands at place i * n + k
+unfoldable pub cellsTo : ℕ → ℕ → (ℕ → ℕ → ℕ) → List ℕ
+cellsTo q n f = front q (λ p. f (p / n) (p % n)) (replicate 169 0)
 
--- what steps 1 to 4 count on: the call was not refused by 4 or 11
-pub record Ready (n : ℕ) (table : List ℕ) : Type 0 where
-  pub low : 1 ≤ n
-  pub high : n ≤ 13
-  pub whole : length table ≡ tableRows n
+-- all of them
+unfoldable pub cells : ℕ → (ℕ → ℕ → ℕ) → List ℕ
+cells n f = cellsTo (n * n) n f
 
 -- what steps 1 to 4 find where they are not refused
 unfoldable pub castOf : ℕ → ℕ → ℕ → List ℕ → List ℕ → List ℕ → Cast

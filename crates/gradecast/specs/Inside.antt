@@ -1,20 +1,22 @@
 -- What the private functions say of their parts of the work. No promise of the crate names any of it.
-use Prim.Native.Nat.{ℕ, _+_, _*_, _/_, _%_, _<_}
+use Prim.Native.Nat.{ℕ, _+_, _*_, _≤_, _<_}
 use mathlib.Core.Path.{_≡_}
 use mathlib.Core.List.{List}
-use lib.ListN.{getD, take, drop, replicate}
-use Rattle.counting.specs.Count.{front}
+use lib.ListN.{length, getD, take, drop}
+use Rattle.sizes.specs.Sizes.{tableRows}
 use Rattle.gradecast.specs.Steps.{placeFrom, sends, hears, heard1, voted, confidence, gradeRow, messages}
-use Rattle.gradecast.specs.Cast.{ofSound, cells}
+use Rattle.gradecast.specs.Cast.{ofSound, cellsTo, cells}
+
+-- what steps 1 to 4 count on: the call was not refused by 4 or 11
+pub record Ready (n : ℕ) (table : List ℕ) : Type 0 where
+  pub low : 1 ≤ n
+  pub high : n ≤ 13
+  pub whole : length table ≡ tableRows n
 
 -- boxes i and k, or box i and leader k, are among the n
 pub record Among (n i k : ℕ) : Type 0 where
   pub is-box : i < n
   pub is-leader : k < n
-
--- the cells, of which the first q are there
-unfoldable pub cellsTo : ℕ → ℕ → (ℕ → ℕ → ℕ) → List ℕ
-cellsTo q n f = front q (λ p. f (p / n) (p % n)) (replicate 169 0)
 
 -- what a box i with this list hears from box j about leader k, where what sound boxes send stands in 169 places
 unfoldable pub heardFrom : ℕ → ℕ → ℕ → ℕ → List ℕ → List ℕ → ℕ → ℕ → ℕ → ℕ

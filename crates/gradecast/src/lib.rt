@@ -8,8 +8,9 @@ ghost use Rattle.counting.specs.Count.{count};
 ghost use Rattle.sizes.specs.Sizes.{sound, tableRows};
 ghost use Rattle.tally.specs.Tally.{voteOf, confidenceOf, gradedRow};
 ghost use Rattle.gradecast.specs.Steps.{place1, placeFrom, sends, hears, heard1};
-ghost use Rattle.gradecast.specs.Cast.{Ready, ofSound, cells, castOf, castRefusal, castReply};
+ghost use Rattle.gradecast.specs.Cast.{ofSound, cells, castOf, castRefusal, castReply};
 ghost use Rattle.gradecast.specs.Inside.{
+  Ready,
   Among,
   columnOf,
   HeardTo,
@@ -33,7 +34,7 @@ pub struct Cast {
 
 // What a box with this list hears from j: nothing from a listed box, the table's row from a faulty one, else j's own row.
 fn hear(list: u16, faulty: u16, table: &[u64], j: usize, place: usize, own: u64) -> u64
-    requires { ⌜ (j < 16) × (place < length (now table)) ⌝ }
+    requires { ⌜ place < length (now table) ⌝ }
     ensures { λ r. ⌜ r ≡ hears list j (sends faulty (now (table .entry)) j place own) ⌝ }
 {
     if sizes::is_member(list, j) {
@@ -305,7 +306,6 @@ fn sent_in(cells: &[u64]) -> usize
 
 // 1 for a sound box with a row, which it sends in step 1.
 fn one_if_first(faulty: u16, j: usize, row: u64) -> usize
-    requires { ⌜ j < 16 ⌝ }
     ensures { λ r. ⌜ r ≡ cond (sound faulty j && not (eqb row 0)) 1 0 ⌝ }
 {
     if sizes::is_member(faulty, j) {

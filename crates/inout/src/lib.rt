@@ -1,7 +1,7 @@
 // What both programs share: standard input read in pieces, and lines of text put together in a lent slice.
 ghost use mathlib.Core.Path.{_≡_};
 ghost use mathlib.Core.List.{_++_};
-ghost use Prim.Native.Nat.{_+_, _-_, _≤_};
+ghost use Prim.Native.Nat.{_+_, _-_, _≤_, _<_};
 ghost use lib.ListN.{length, take, drop};
 ghost use Rattle.listing.specs.Line.{lineReply, lineWrites};
 
@@ -21,6 +21,7 @@ pub fn fill(bytes: &mut [u8], at: usize, end: usize) -> usize
     ensures { λ r. ⌜ (at ≤ r) × (r ≤ at + (end - at)) ⌝ }
     ensures { λ r. ⌜ take at (now (bytes .exit)) ≡ take at (now (bytes .entry)) ⌝ }
     ensures { λ r. ⌜ drop end (now (bytes .exit)) ≡ drop end (now (bytes .entry)) ⌝ }
+    ensures { λ r. ⌜ (length (now (bytes .entry)) < end → (r ≡ at) × (now (bytes .exit) ≡ now (bytes .entry))) ⌝ }
 {
     if end < at {
         return at;

@@ -172,18 +172,6 @@ fn print_vote(rows: &[u64], t: u8, text: &mut [u8]) {
     inout::print_line(text, b"vote", &[voted.refusal as u64, voted.row]);
 }
 
-// A vote. Here and below: false where the request is cut short or asks for too much.
-fn answer_vote(bytes: &mut [u8], rows: &mut [u64], text: &mut [u8]) -> bool
-    requires { ⌜ (length (now bytes) ≡ 65536) × (length (now rows) ≡ 5001) ⌝ }
-{
-    let head = take_head(bytes, rows);
-    let count = head.count;
-    if head.whole {
-        print_vote(&rows[0..count], head.second, text);
-    }
-    head.whole
-}
-
 // Prints a grade.
 fn print_grade(rows: &[u64], t: u8, text: &mut [u8]) {
     let graded = tally::grade(rows, t);
@@ -194,14 +182,22 @@ fn print_grade(rows: &[u64], t: u8, text: &mut [u8]) {
     );
 }
 
-// A grade.
-fn answer_grade(bytes: &mut [u8], rows: &mut [u64], text: &mut [u8]) -> bool
+// Prints a vote or a grade.
+fn print_tally(kind: u8, rows: &[u64], t: u8, text: &mut [u8]) {
+    match kind {
+        1 => print_vote(rows, t, text),
+        _ => print_grade(rows, t, text),
+    }
+}
+
+// A vote or a grade. Here and below: false where the request is cut short or asks for too much.
+fn answer_tally(kind: u8, bytes: &mut [u8], rows: &mut [u64], text: &mut [u8]) -> bool
     requires { ⌜ (length (now bytes) ≡ 65536) × (length (now rows) ≡ 5001) ⌝ }
 {
     let head = take_head(bytes, rows);
     let count = head.count;
     if head.whole {
-        print_grade(&rows[0..count], head.second, text);
+        print_tally(kind, &rows[0..count], head.second, text);
     }
     head.whole
 }
@@ -363,8 +359,7 @@ fn answer(bytes: &mut [u8], numbers: &mut [u64], text: &mut [u8]) -> bool
     }
     let kind = bytes[0];
     match kind {
-        1 => answer_vote(bytes, numbers, text),
-        2 => answer_grade(bytes, numbers, text),
+        1..=2 => answer_tally(kind, bytes, numbers, text),
         3 => answer_choice(bytes, numbers, text),
         4 => answer_start(bytes, numbers, text),
         5 => answer_iteration(bytes, numbers, text),

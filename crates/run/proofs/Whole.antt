@@ -16,7 +16,8 @@ use Rattle.sizes.specs.Sizes.{sound, tableRows}
 use Rattle.sizes.proofs.Laws.{inside-low, inside-high, tolerated-lt, table-le}
 use Rattle.gradecast.specs.declared.Cast.{Cast}
 use Rattle.gradecast.specs.Steps.{messages}
-use Rattle.gradecast.specs.Cast.{Ready, castOf, castReply}
+use Rattle.gradecast.specs.Cast.{castOf, castReply}
+use Rattle.gradecast.specs.Inside.{Ready}
 use Rattle.gradecast.proofs.Cells.{length-cells}
 use Rattle.gradecast.proofs.Messages.{messages-bound}
 use Rattle.gradecast.proofs.Replies.{cast-taken, ready-passes}

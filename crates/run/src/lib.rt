@@ -56,7 +56,6 @@ fn setting_refusal(n: u8, t: u8, faulty: u16) -> u8
 
 // Is k one of the n boxes, and sound?
 fn is_sound_box(n: u8, faulty: u16, k: usize) -> bool
-    requires { ⌜ k < 13 ⌝ }
     ensures { λ r. ⌜ r ≡ (ltb k n && sound faulty k) ⌝ }
 {
     if (n as usize) <= k {
@@ -157,7 +156,6 @@ pub fn start(n: u8, t: u8, faulty: u16, rows: &[u64]) -> Next
 
 // Refusal 14 at place k: a list bit at place n or above, or anything in a faulty or unused place.
 fn is_bad_place(n: u8, faulty: u16, k: usize, row: u64, list: u16) -> bool
-    requires { ⌜ (n ≤ 13) × (k < 13) ⌝ }
     ensures { λ r. ⌜ r ≡ badEntry n faulty k row list ⌝ }
 {
     if is_sound_box(n, faulty, k) {
@@ -171,7 +169,6 @@ fn is_bad_place(n: u8, faulty: u16, k: usize, row: u64, list: u16) -> bool
 
 // Refusal 14: is some place of the state bad?
 fn has_bad_place(s: Run) -> bool
-    requires { ⌜ s .n ≤ 13 ⌝ }
     ensures { λ r. ⌜ r ≡ any 13 (badPlace s) ⌝ }
 {
     let mut k: usize = 0;
@@ -244,7 +241,6 @@ fn new_row(s: Run, rows: &[u64], confidences: &[u8], i: usize) -> u64
 
 // Does leader k stand on the new list: was it on the old one, or has it confidence 0 or 1?
 fn joins(old: u16, k: usize, confidence: u8) -> bool
-    requires { ⌜ k < 16 ⌝ }
     ensures { λ r. ⌜ r ≡ (member old k || ltb confidence 2) ⌝ }
 {
     match confidence {
@@ -339,6 +335,7 @@ impl Run {
         if refusal != 0 {
             return Next { refusal, run: self };
         }
+        // The tests above leave steps 1 to 4 nothing to refuse.
         let rows = self.rows;
         let lists = self.lists;
         let cast = gradecast::steps(self.n as usize, self.t, self.faulty, &rows, &lists, table);

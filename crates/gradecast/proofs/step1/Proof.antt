@@ -4,8 +4,7 @@ use Prim.Native.Nat.{_*_, _-_, _≤_}
 use native.Mathlib.Omega.{arith}
 use lib.ListN.{length}
 use Rattle.gradecast.specs.Steps.{heard1}
-use Rattle.gradecast.specs.Cast.{ofSound}
-use Rattle.gradecast.specs.Inside.{cellsTo}
+use Rattle.gradecast.specs.Cast.{ofSound, cellsTo}
 use Rattle.gradecast.proofs.Cells.{cells-none, box-turn, box-whole}
 use borrow.Author.Needs.{needs}
 use Rattle.gradecast.proofs.step1.Statement.{statement}

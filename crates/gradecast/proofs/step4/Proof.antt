@@ -5,8 +5,8 @@ use Prim.Native.Nat.{ℕ, _*_, _-_, _≤_}
 use native.Mathlib.Omega.{arith}
 use lib.ListN.{length}
 use Rattle.gradecast.specs.Steps.{gradeRow, confidence}
-use Rattle.gradecast.specs.Cast.{ofSound}
-use Rattle.gradecast.specs.Inside.{cellsTo, SaidThird}
+use Rattle.gradecast.specs.Cast.{ofSound, cellsTo}
+use Rattle.gradecast.specs.Inside.{SaidThird}
 use Rattle.gradecast.proofs.Cells.{cells-none, box-turn, box-whole}
 use borrow.Author.Needs.{needs}
 use Rattle.gradecast.proofs.step4.Statement.{statement}

@@ -34,7 +34,7 @@ element-copy-out-is-bad-place-2 : tie.Need-element-copy-out-is-bad-place-2 Inv-l
 element-copy-out-is-bad-place-2 c = search needs
 
 is-bad-place-requires : tie.Need-is-bad-place-requires Inv-loop μ-loop
-is-bad-place-requires c κs = (c .before .before .before .before .pre, c .before .before .loop-test .taken)
+is-bad-place-requires c κs = search needs
 
 returns : tie.Need-returns Inv-loop μ-loop
 unfolding badPlace
