@@ -9,8 +9,8 @@ use lib.Dec.{ltb}
 use lib.ListN.{length, take, drop, length-drop, drop-of-length-le}
 use lib.Seq.{take-all, drop-length}
 use borrow.Author.Tests.{ltb-false}
-use Rattle.listing.specs.Line.{lineOf, tooShort, lineReply, lineWrites}
-use Rattle.listing.proofs.Laws.{line-keeps}
+use Rattle.lines.specs.Line.{lineOf, tooShort, lineReply, lineWrites}
+use Rattle.lines.proofs.Laws.{line-keeps}
 
 pub line-fits : (word numbers : List ℕ) (room : ℕ) → lineReply word numbers room .size ≤ room
 unfolding lineReply tooShort

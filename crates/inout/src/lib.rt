@@ -3,7 +3,7 @@ ghost use mathlib.Core.Path.{_≡_};
 ghost use mathlib.Core.List.{_++_};
 ghost use Prim.Native.Nat.{_+_, _-_, _≤_, _<_};
 ghost use lib.ListN.{length, take, drop};
-ghost use Rattle.listing.specs.Line.{lineReply, lineWrites};
+ghost use Rattle.lines.specs.Line.{lineReply, lineWrites};
 
 // Fills a part that lies within the bytes.
 fn fill_part(bytes: &mut [u8], at: usize, end: usize) -> usize
@@ -39,7 +39,7 @@ fn put_within(text: &mut [u8], at: usize, word: &[u8], numbers: &[u64]) -> usize
     ensures { λ r. ⌜ r ≤ length (now (text .entry)) ⌝ }
     ensures { λ r. ⌜ now (text .exit) ≡ take at (now (text .entry)) ++ lineWrites (now (word .entry)) (now (numbers .entry)) (drop at (now (text .entry))) ⌝ }
 {
-    at + listing::write_line(&mut text[at..], word, numbers).size
+    at + lines::write_line(&mut text[at..], word, numbers).size
 }
 
 // Puts a line at a place of the text and gives the place behind it. A line that does not fit is left out.
@@ -58,6 +58,6 @@ pub fn put_line(text: &mut [u8], at: usize, word: &[u8], numbers: &[u64]) -> usi
 pub fn print_line(text: &mut [u8], word: &[u8], numbers: &[u64])
     ensures { λ r. ⌜ now (text .exit) ≡ lineWrites (now (word .entry)) (now (numbers .entry)) (now (text .entry)) ⌝ }
 {
-    let size = listing::write_line(text, word, numbers).size;
+    let size = lines::write_line(text, word, numbers).size;
     io::write_all(libc::STDOUT_FILENO, &text[..size]);
 }

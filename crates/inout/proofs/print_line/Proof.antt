@@ -5,7 +5,7 @@ use mathlib.Core.Path.{sym, ap}
 use native.Mathlib.Omega.{arith}
 use lib.ListN.{length}
 use lib.Seq.{length-take-le}
-use Rattle.listing.specs.declared.Written.{Written}
+use Rattle.lines.specs.declared.Written.{Written}
 use Rattle.inout.proofs.Laws.{line-fits}
 use borrow.Author.Needs.{needs}
 use Rattle.inout.proofs.print_line.Statement.{statement}

@@ -5,8 +5,8 @@ use mathlib.Core.Path.{_≡_, ap, _∙_}
 use mathlib.Core.List.{List, _++_}
 use native.Mathlib.Omega.{arith}
 use lib.ListN.{length, take, length-drop}
-use Rattle.listing.specs.declared.Written.{Written}
-use Rattle.listing.specs.Line.{lineReply, lineWrites}
+use Rattle.lines.specs.declared.Written.{Written}
+use Rattle.lines.specs.Line.{lineReply, lineWrites}
 use Rattle.inout.proofs.Laws.{line-fits, rest-whole, rest-none}
 use borrow.Author.Needs.{needs}
 use Rattle.inout.proofs.put_within.Statement.{statement}

@@ -12,7 +12,7 @@ use lib.Dec.{ltb}
 use lib.ListN.{length, length-append}
 use borrow.Author.Tests.{lt-ltb, le-ltb, ltb-true, ltb-false}
 use Rattle.counting.proofs.Bools.{cond-true, cond-false, either}
-use Rattle.listing.specs.Line.{tens, decimal}
+use Rattle.lines.specs.Line.{tens, decimal}
 
 -- taking a tenth more often than needed changes nothing
 tens-enough : (w v n : ℕ) → n ≤ w → n ≤ v → tens w n ≡ tens v n

@@ -4,7 +4,7 @@ use mathlib.Core.Bool.{Bool, cond}
 use mathlib.Core.List.{List, [], _∷_, _++_}
 use lib.Dec.{ltb}
 use lib.ListN.{length, getD, take, drop}
-use Rattle.listing.specs.declared.Written.{Written}
+use Rattle.lines.specs.declared.Written.{Written}
 
 -- the digits of n: one below 10, else those of the tenth and one more. The first number is how often a tenth may be taken
 unfoldable pub tens : ℕ → ℕ → List ℕ

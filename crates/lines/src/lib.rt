@@ -2,7 +2,7 @@
 ghost use mathlib.Core.Path.{_≡_};
 ghost use Prim.Native.Nat.{_+_, _≤_};
 ghost use lib.ListN.{length};
-ghost use Rattle.listing.specs.Line.{decimal, field, fields, placed, lineReply, lineWrites};
+ghost use Rattle.lines.specs.Line.{decimal, field, fields, placed, lineReply, lineWrites};
 
 // The reply of a line: the refusal's number, or 0 with the number of bytes written.
 pub struct Written {

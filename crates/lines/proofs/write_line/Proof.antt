@@ -1,17 +1,17 @@
--- `listing::write_line` meets its contract: the reply is made first; a slice that is long enough takes the word, the numbers behind it and the
+-- `lines::write_line` meets its contract: the reply is made first; a slice that is long enough takes the word, the numbers behind it and the
 -- newline behind them, which together are the line. Assumes nothing.
 use mathlib.Core.Path.{_≡_, ap, sym, _∙_}
 use mathlib.Core.List.{List, _++_}
 use Prim.Native.Nat.{ℕ, _+_, _≤_}
 use native.Mathlib.Omega.{arith}
 use lib.ListN.{length, length-set, length-append}
-use Rattle.listing.specs.declared.Written.{Written}
-use Rattle.listing.specs.Line.{fields, lineOf, placed, lineReply}
-use Rattle.listing.proofs.Lines.{line-length, line-fits, line-short, line-leaves, line-written}
-use Rattle.listing.proofs.Placed.{placed-then, placed-next, placed-length}
+use Rattle.lines.specs.declared.Written.{Written}
+use Rattle.lines.specs.Line.{fields, lineOf, placed, lineReply}
+use Rattle.lines.proofs.Lines.{line-length, line-fits, line-short, line-leaves, line-written}
+use Rattle.lines.proofs.Placed.{placed-then, placed-next, placed-length}
 use borrow.Author.Needs.{needs}
-use Rattle.listing.proofs.write_line.Statement.{statement}
-use Rattle.listing.proofs.write_line.Tie as tie
+use Rattle.lines.proofs.write_line.Statement.{statement}
+use Rattle.lines.proofs.write_line.Tie as tie
 
 abbrev start-of : tie.Else1 → tie.Start
 start-of c = c .before .before .before .before .before .before

@@ -1,14 +1,14 @@
--- `listing::put_number` meets its contract: the space is a text of one byte, and the digits stand behind it. Assumes nothing.
+-- `lines::put_number` meets its contract: the space is a text of one byte, and the digits stand behind it. Assumes nothing.
 use mathlib.Core.Path.{refl, _∙_}
 use mathlib.Core.List.{[], _∷_}
 use Prim.Native.Nat.{_+_}
 use native.Mathlib.Omega.{arith}
 use lib.ListN.{set, length-set}
-use Rattle.listing.specs.Line.{decimal, field}
-use Rattle.listing.proofs.Placed.{placed-one, placed-then}
+use Rattle.lines.specs.Line.{decimal, field}
+use Rattle.lines.proofs.Placed.{placed-one, placed-then}
 use borrow.Author.Needs.{needs}
-use Rattle.listing.proofs.put_number.Statement.{statement}
-use Rattle.listing.proofs.put_number.Tie as tie
+use Rattle.lines.proofs.put_number.Statement.{statement}
+use Rattle.lines.proofs.put_number.Tie as tie
 
 digits-requires : tie.Need-digits-requires
 digits-requires c κs = search needs

@@ -1,15 +1,15 @@
--- `listing::measured` meets its contract: after i turns `size` is the length of the word and the first i numbers, and is within the room.
+-- `lines::measured` meets its contract: after i turns `size` is the length of the word and the first i numbers, and is within the room.
 -- A line whose part is longer than the room is longer too. What is left of the numbers falls. Assumes nothing.
 use mathlib.Core.Path.{_≡_, ap, _∙_}
 use Prim.Native.Nat.{ℕ, _+_, _≤_, _-_}
 use native.Mathlib.Omega.{arith}
 use lib.ListN.{length}
-use Rattle.listing.specs.Line.{field, fields, lineOf}
-use Rattle.listing.specs.declared.Written.{Written}
-use Rattle.listing.proofs.Lines.{fields-longer, fields-more, line-length, line-refused, line-given}
+use Rattle.lines.specs.Line.{field, fields, lineOf}
+use Rattle.lines.specs.declared.Written.{Written}
+use Rattle.lines.proofs.Lines.{fields-longer, fields-more, line-length, line-refused, line-given}
 use borrow.Author.Needs.{needs}
-use Rattle.listing.proofs.measured.Statement.{statement}
-use Rattle.listing.proofs.measured.Tie as tie
+use Rattle.lines.proofs.measured.Statement.{statement}
+use Rattle.lines.proofs.measured.Tie as tie
 
 abbrev Inv-loop : tie.InvT-loop
 Inv-loop word numbers room size₀ i₀ size i = (i ≤ length numbers) × ((size ≡ length word + length (fields numbers i)) × (size ≤ room))

@@ -1,16 +1,16 @@
--- `listing::put_digits` meets its contract: the digits of the number left, with what stands behind `end`, are the digits of n with what stood
+-- `lines::put_digits` meets its contract: the digits of the number left, with what stands behind `end`, are the digits of n with what stood
 -- behind them; before `end` nothing is written yet. The number left falls. Assumes nothing.
 use mathlib.Core.Path.{_≡_, refl, ap, _∙_}
 use mathlib.Core.List.{[], _∷_, _++_}
 use Prim.Native.Nat.{ℕ, _≤_, _+_, _-_}
 use native.Mathlib.Omega.{arith}
 use lib.ListN.{length, drop, set, length-set, length-append, length-drop}
-use Rattle.listing.specs.Line.{decimal}
-use Rattle.listing.proofs.Decimal.{decimal-small, decimal-longer, decimal-large, decimal-some}
-use Rattle.listing.proofs.Placed.{Behind, behind-turn, behind-done}
+use Rattle.lines.specs.Line.{decimal}
+use Rattle.lines.proofs.Decimal.{decimal-small, decimal-longer, decimal-large, decimal-some}
+use Rattle.lines.proofs.Placed.{Behind, behind-turn, behind-done}
 use borrow.Author.Needs.{needs}
-use Rattle.listing.proofs.put_digits.Statement.{statement}
-use Rattle.listing.proofs.put_digits.Tie as tie
+use Rattle.lines.proofs.put_digits.Statement.{statement}
+use Rattle.lines.proofs.put_digits.Tie as tie
 
 abbrev Inv-loop : tie.InvT-loop
 Inv-loop out₀ at size n left₀ end₀ out left end = (end ≡ at + length (decimal left)) × Behind out₀ out (decimal left) (decimal n) end (at + size)

@@ -14,7 +14,7 @@ use lib.ListN.{length, getD, length-append}
 use borrow.Author.Tests.{lt-ltb, le-ltb, ltb-true, ltb-false}
 use Rattle.counting.proofs.Bools.{cond-true, cond-false}
 use Rattle.counting.proofs.Count.{at-or-below}
-use Rattle.listing.specs.Line.{field, fields, lineOf, tooShort, placed, lineReply, lineWrites}
+use Rattle.lines.specs.Line.{field, fields, lineOf, tooShort, placed, lineReply, lineWrites}
 
 -- the turn of a loop over the numbers
 pub fields-turn : (numbers : List ℕ) (k : ℕ) → fields numbers (k + 1) ≡ fields numbers k ++ field (getD numbers k 0)

@@ -1,15 +1,15 @@
--- `listing::put_numbers` meets its contract: after i turns the first i numbers stand at the place, and `end` is behind them. What is left of the
+-- `lines::put_numbers` meets its contract: after i turns the first i numbers stand at the place, and `end` is behind them. What is left of the
 -- numbers falls. Assumes nothing.
 use mathlib.Core.Path.{_≡_, ap, sym, _∙_}
 use Prim.Native.Nat.{ℕ, _+_, _≤_, _-_}
 use native.Mathlib.Omega.{arith}
 use lib.ListN.{length, getD}
-use Rattle.listing.specs.Line.{field, fields, placed}
-use Rattle.listing.proofs.Lines.{fields-turn, fields-longer, fields-more}
-use Rattle.listing.proofs.Placed.{placed-none, placed-then, placed-length}
+use Rattle.lines.specs.Line.{field, fields, placed}
+use Rattle.lines.proofs.Lines.{fields-turn, fields-longer, fields-more}
+use Rattle.lines.proofs.Placed.{placed-none, placed-then, placed-length}
 use borrow.Author.Needs.{needs}
-use Rattle.listing.proofs.put_numbers.Statement.{statement}
-use Rattle.listing.proofs.put_numbers.Tie as tie
+use Rattle.lines.proofs.put_numbers.Statement.{statement}
+use Rattle.lines.proofs.put_numbers.Tie as tie
 
 abbrev Inv-loop : tie.InvT-loop
 Inv-loop out₀ at numbers end₀ i₀ out end i = (i ≤ length numbers) × ((end ≡ at + length (fields numbers i)) × (out ≡ placed out₀ at (fields numbers i)))

@@ -10,11 +10,11 @@ use native.Mathlib.Omega.{arith}
 use lib.ListN.{length, getD, take, drop, List·getD-append}
 use lib.Seq.{getD-at, take-at, drop-at}
 use Rattle.counting.proofs.Count.{at-or-below}
-use Rattle.listing.specs.declared.Written.{Written}
-use Rattle.listing.specs.Line.{decimal, lineOf, placed, lineReply, lineWrites, readOn}
-use Rattle.listing.proofs.Decimal.{decimal-small, decimal-large, decimal-longer, decimal-some, decimal-20, by-tenths}
-use Rattle.listing.proofs.Lines.{line-leaves, line-written}
-use Rattle.listing.proofs.Placed.{placed-length}
+use Rattle.lines.specs.declared.Written.{Written}
+use Rattle.lines.specs.Line.{decimal, lineOf, placed, lineReply, lineWrites, readOn}
+use Rattle.lines.proofs.Decimal.{decimal-small, decimal-large, decimal-longer, decimal-some, decimal-20, by-tenths}
+use Rattle.lines.proofs.Lines.{line-leaves, line-written}
+use Rattle.lines.proofs.Placed.{placed-length}
 
 read-last : (before : ℕ) (text : List ℕ) (byte : ℕ) → readOn before (text ++ (byte ∷ [])) ≡ readOn before text * 10 + (byte - 48)
 unfolding readOn

@@ -1,4 +1,4 @@
--- `listing::put_word` meets its contract: after i turns the first i bytes of the word stand at the front of the slice, whose length stays.
+-- `lines::put_word` meets its contract: after i turns the first i bytes of the word stand at the front of the slice, whose length stays.
 -- What is left of the word falls. Assumes nothing.
 use mathlib.Core.Path.{_≡_, ap, sym, _∙_}
 use mathlib.Core.List.{[], _∷_, _++_}
@@ -7,11 +7,11 @@ use native.Mathlib.Omega.{arith}
 use native.Mathlib.Numerals.{add-one}
 use lib.ListN.{length, getD, take}
 use lib.Seq.{take-suc, take-length, length-take-le}
-use Rattle.listing.specs.Line.{placed}
-use Rattle.listing.proofs.Placed.{placed-none, placed-next, placed-length}
+use Rattle.lines.specs.Line.{placed}
+use Rattle.lines.proofs.Placed.{placed-none, placed-next, placed-length}
 use borrow.Author.Needs.{needs}
-use Rattle.listing.proofs.put_word.Statement.{statement}
-use Rattle.listing.proofs.put_word.Tie as tie
+use Rattle.lines.proofs.put_word.Statement.{statement}
+use Rattle.lines.proofs.put_word.Tie as tie
 
 abbrev Inv-loop : tie.InvT-loop
 Inv-loop out₀ word i₀ out i = (i ≤ length word) × (out ≡ placed out₀ 0 (take i word))

@@ -9,7 +9,7 @@ use native.Mathlib.Numerals.{add-one}
 use native.Mathlib.Omega.{arith}
 use lib.ListN.{length, take, drop, set, length-append, length-drop, length-set, take-append-drop}
 use lib.Seq.{set-split, length-take-le, take-at, drop-at, drop-drop, drop-cons, lt-length-set, getD-set-same, drop-set-lt, take-set-le, take-take, append-snoc}
-use Rattle.listing.specs.Line.{placed}
+use Rattle.lines.specs.Line.{placed}
 
 pub placed-none : (xs : List ℕ) (at : ℕ) → xs ≡ placed xs at []
 unfolding placed

@@ -1,14 +1,14 @@
--- `listing::digits` meets its contract: the digits counted and those of the number left are one more than those of n. The number left
+-- `lines::digits` meets its contract: the digits counted and those of the number left are one more than those of n. The number left
 -- falls. Assumes nothing.
 use mathlib.Core.Path.{_≡_, ap}
 use Prim.Native.Nat.{_+_}
 use native.Mathlib.Omega.{arith}
 use lib.ListN.{length}
-use Rattle.listing.specs.Line.{decimal}
-use Rattle.listing.proofs.Decimal.{decimal-small, decimal-longer, decimal-20}
+use Rattle.lines.specs.Line.{decimal}
+use Rattle.lines.proofs.Decimal.{decimal-small, decimal-longer, decimal-20}
 use borrow.Author.Needs.{needs}
-use Rattle.listing.proofs.digits.Statement.{statement}
-use Rattle.listing.proofs.digits.Tie as tie
+use Rattle.lines.proofs.digits.Statement.{statement}
+use Rattle.lines.proofs.digits.Tie as tie
 
 abbrev Inv-loop : tie.InvT-loop
 Inv-loop n count₀ left₀ count left = count + length (decimal left) ≡ length (decimal n) + 1
