@@ -1,6 +1,5 @@
-// What both programs share: standard input read in pieces, and lines of text put together in a lent slice.
+// What the programs share: standard input read in pieces, and a line of text printed.
 ghost use mathlib.Core.Path.{_≡_};
-ghost use mathlib.Core.List.{_++_};
 ghost use Prim.Native.Nat.{_+_, _-_, _≤_, _<_};
 ghost use lib.ListN.{length, take, drop};
 ghost use Rattle.lines.specs.Line.{lineReply, lineWrites};
@@ -30,28 +29,6 @@ pub fn fill(bytes: &mut [u8], at: usize, end: usize) -> usize
         return at;
     }
     fill_part(bytes, at, end)
-}
-
-// Puts a line at a place that lies within the text.
-fn put_within(text: &mut [u8], at: usize, word: &[u8], numbers: &[u64]) -> usize
-    requires { ⌜ at ≤ length (now text) ⌝ }
-    ensures { λ r. ⌜ r ≡ at + lineReply (now (word .entry)) (now (numbers .entry)) (length (now (text .entry)) - at) .size ⌝ }
-    ensures { λ r. ⌜ r ≤ length (now (text .entry)) ⌝ }
-    ensures { λ r. ⌜ now (text .exit) ≡ take at (now (text .entry)) ++ lineWrites (now (word .entry)) (now (numbers .entry)) (drop at (now (text .entry))) ⌝ }
-{
-    at + lines::write_line(&mut text[at..], word, numbers).size
-}
-
-// Puts a line at a place of the text and gives the place behind it. A line that does not fit is left out.
-pub fn put_line(text: &mut [u8], at: usize, word: &[u8], numbers: &[u64]) -> usize
-    ensures { λ r. ⌜ r ≡ at + lineReply (now (word .entry)) (now (numbers .entry)) (length (now (text .entry)) - at) .size ⌝ }
-    ensures { λ r. ⌜ r ≤ at + (length (now (text .entry)) - at) ⌝ }
-    ensures { λ r. ⌜ now (text .exit) ≡ take at (now (text .entry)) ++ lineWrites (now (word .entry)) (now (numbers .entry)) (drop at (now (text .entry))) ⌝ }
-{
-    if text.len() < at {
-        return at;
-    }
-    put_within(text, at, word, numbers)
 }
 
 // Prints one line, put together in the text, in one write.

@@ -3,3 +3,4 @@ pub mod Decimal
 pub mod Placed
 pub mod Lines
 pub mod Laws
+pub mod Put

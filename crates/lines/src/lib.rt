@@ -1,7 +1,8 @@
 // The lines of text: a word and numbers in decimal, written at the front of a lent slice.
 ghost use mathlib.Core.Path.{_≡_};
-ghost use Prim.Native.Nat.{_+_, _≤_};
-ghost use lib.ListN.{length};
+ghost use mathlib.Core.List.{_++_};
+ghost use Prim.Native.Nat.{_+_, _-_, _≤_};
+ghost use lib.ListN.{length, take, drop};
 ghost use Rattle.lines.specs.Line.{decimal, field, fields, placed, lineReply, lineWrites};
 
 // The reply of a line: the refusal's number, or 0 with the number of bytes written.
@@ -125,4 +126,26 @@ pub fn write_line(out: &mut [u8], word: &[u8], numbers: &[u64]) -> Written
     let end = put_numbers(out, word.len(), numbers);
     out[end] = b'\n';
     reply
+}
+
+// Puts a line at a place that lies within the text.
+fn put_within(text: &mut [u8], at: usize, word: &[u8], numbers: &[u64]) -> usize
+    requires { ⌜ at ≤ length (now text) ⌝ }
+    ensures { λ r. ⌜ r ≡ at + lineReply (now (word .entry)) (now (numbers .entry)) (length (now (text .entry)) - at) .size ⌝ }
+    ensures { λ r. ⌜ r ≤ length (now (text .entry)) ⌝ }
+    ensures { λ r. ⌜ now (text .exit) ≡ take at (now (text .entry)) ++ lineWrites (now (word .entry)) (now (numbers .entry)) (drop at (now (text .entry))) ⌝ }
+{
+    at + write_line(&mut text[at..], word, numbers).size
+}
+
+// Puts a line at a place of the text and gives the place behind it. A line that does not fit is left out.
+pub fn put_line(text: &mut [u8], at: usize, word: &[u8], numbers: &[u64]) -> usize
+    ensures { λ r. ⌜ r ≡ at + lineReply (now (word .entry)) (now (numbers .entry)) (length (now (text .entry)) - at) .size ⌝ }
+    ensures { λ r. ⌜ r ≤ at + (length (now (text .entry)) - at) ⌝ }
+    ensures { λ r. ⌜ now (text .exit) ≡ take at (now (text .entry)) ++ lineWrites (now (word .entry)) (now (numbers .entry)) (drop at (now (text .entry))) ⌝ }
+{
+    if text.len() < at {
+        return at;
+    }
+    put_within(text, at, word, numbers)
 }

@@ -76,7 +76,7 @@ fn put_box(
         return at;
     }
     let numbers = [done as u64, (i + 1) as u64, row, list as u64];
-    inout::put_line(text, at, b"at", &numbers)
+    lines::put_line(text, at, b"at", &numbers)
 }
 
 // Prints the lines of all sound boxes in one write: thirteen of at most 35 bytes.

@@ -6,7 +6,7 @@ use native.Mathlib.Omega.{arith}
 use lib.ListN.{length}
 use lib.Seq.{length-take-le}
 use Rattle.lines.specs.declared.Written.{Written}
-use Rattle.inout.proofs.Laws.{line-fits}
+use Rattle.lines.proofs.Put.{line-within}
 use borrow.Author.Needs.{needs}
 use Rattle.inout.proofs.print_line.Statement.{statement}
 use Rattle.inout.proofs.print_line.Tie as tie
@@ -16,7 +16,7 @@ fits c =
     omega (
       arith,
       ap (λ (w : Written). w .size) (c .write-line .ensures .0),
-      line-fits (c .before .before .before .before .before .args .word .now) (c .before .before .before .before .before .args .numbers .now) (length (c .before .before .before .before .before .args .text .now)),
+      line-within (c .before .before .before .before .before .args .word .now) (c .before .before .before .before .before .args .numbers .now) (length (c .before .before .before .before .before .args .text .now)),
     )
 
 write-line-requires : tie.Need-write-line-requires

@@ -1,16 +1,16 @@
--- `inout::put_line` meets its contract: behind the text there is no room for a line; within it the line is put there. Assumes nothing.
+-- `lines::put_line` meets its contract: behind the text there is no room for a line; within it the line is put there. Assumes nothing.
 use Prim.Native.Nat.{_-_}
 use native.Mathlib.Omega.{arith}
 use lib.ListN.{length}
-use Rattle.inout.proofs.Laws.{line-fits, line-beyond}
+use Rattle.lines.proofs.Put.{line-within, line-beyond}
 use borrow.Author.Needs.{needs}
-use Rattle.inout.proofs.put_line.Statement.{statement}
-use Rattle.inout.proofs.put_line.Tie as tie
+use Rattle.lines.proofs.put_line.Statement.{statement}
+use Rattle.lines.proofs.put_line.Tie as tie
 
 returns : tie.Need-returns
 returns c =
     let a = c .before .before .before .before .args in
-    let fits = line-fits (a .word .now) (a .numbers .now) (length (a .text .now) - a .at) in
+    let fits = line-within (a .word .now) (a .numbers .now) (length (a .text .now) - a .at) in
     (omega (arith, fits), (omega arith, line-beyond (a .word .now) (a .numbers .now) (a .text .now) (a .at) (omega arith)))
 
 put-within-requires : tie.Need-put-within-requires

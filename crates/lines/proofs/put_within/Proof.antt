@@ -1,16 +1,16 @@
--- `inout::put_within` meets its contract: the line is written at the front of what lies from the place on, and its size lies within that.
+-- `lines::put_within` meets its contract: the line is written at the front of what lies from the place on, and its size lies within that.
 -- Assumes nothing.
 use Prim.Native.Nat.{ℕ, _+_, _-_, _≤_}
 use mathlib.Core.Path.{_≡_, ap, _∙_}
 use mathlib.Core.List.{List, _++_}
 use native.Mathlib.Omega.{arith}
 use lib.ListN.{length, take, length-drop}
 use Rattle.lines.specs.declared.Written.{Written}
 use Rattle.lines.specs.Line.{lineReply, lineWrites}
-use Rattle.inout.proofs.Laws.{line-fits, rest-whole, rest-none}
+use Rattle.lines.proofs.Put.{line-within, rest-whole, rest-none}
 use borrow.Author.Needs.{needs}
-use Rattle.inout.proofs.put_within.Statement.{statement}
-use Rattle.inout.proofs.put_within.Tie as tie
+use Rattle.lines.proofs.put_within.Statement.{statement}
+use Rattle.lines.proofs.put_within.Tie as tie
 
 abbrev text-of : tie.After-write-line → List ℕ
 text-of c = c .before .before .before .before .before .args .text .now
@@ -22,7 +22,7 @@ is c =
 
 within : (c : tie.After-write-line) → c .before .before .before .before .before .args .at + c .write-line .result .size ≤ length (text-of c)
 within c =
-    let fits = line-fits (c .before .before .before .before .before .args .word .now) (c .before .before .before .before .before .args .numbers .now) (length (text-of c) - c .before .before .before .before .before .args .at) in
+    let fits = line-within (c .before .before .before .before .before .args .word .now) (c .before .before .before .before .before .args .numbers .now) (length (text-of c) - c .before .before .before .before .before .args .at) in
     omega (arith, is c, fits, c .before .before .before .before .before .pre)
 
 sub-write-line : tie.Need-sub-write-line
