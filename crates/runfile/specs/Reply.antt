@@ -1,16 +1,16 @@
 -- The whole replies of the readers, and the last contents of the lent slice. A refused read writes nothing and gives 0 for all
 -- but the refusal's number.
-use Prim.Native.Nat.{ℕ, _*_}
+use Prim.Native.Nat.{ℕ, _+_, _*_}
 use mathlib.Core.Bool.{cond, not, _&&_}
-use mathlib.Core.List.{List, [], _∷_}
+use mathlib.Core.List.{List, [], _∷_, _++_}
 use lib.Dec.{eqb, ltb}
-use lib.ListN.{length}
+use lib.ListN.{length, take, drop}
 use Rattle.counting.specs.Count.{build, front}
 use Rattle.counting.specs.Refuse.{Refusal, firstOf}
 use Rattle.counting.specs.Refuse.Refusal.{refuse}
 use Rattle.sizes.specs.Sizes.{outside, tooMany, stray, soundZero, tableRows}
 use Rattle.runfile.specs.declared.Heading.{Heading}
-use Rattle.runfile.specs.File.{marked, versionOf, nOf, tByte, faultyOf, tOf, headingBytes, headingRow, tableRow}
+use Rattle.runfile.specs.File.{marked, versionOf, nOf, tByte, faultyOf, tOf, headingBytes, rowFrom, headingRow, tableRow}
 
 -- the heading reader's refusals: 1, 2, 3, 4, 5 (255 passes), 6, 8, 9, 10; `room` is the length of the lent slice
 unfoldable pub headingTests : List ℕ → ℕ → List Refusal
@@ -71,3 +71,21 @@ headingWrites bytes slice =
 unfoldable pub tableWrites : ℕ → List ℕ → List ℕ → List ℕ
 tableWrites n bytes slice =
     cond (eqb (tableRefusal n bytes (length slice)) 0) (front (tableRows n) (tableRow bytes) slice) slice
+
+-- the refusals of a part of a table, so many rows from a place on: 8 where the bytes end before it does, 10
+unfoldable pub partTests : ℕ → ℕ → List ℕ → ℕ → List Refusal
+partTests from count bytes room =
+    refuse 8 (ltb (length bytes) (8 * (from + count))) ∷ refuse 10 (ltb room (from + count)) ∷ []
+
+-- the part reader's refusal, or 0
+unfoldable pub partRefusal : ℕ → ℕ → List ℕ → ℕ → ℕ
+partRefusal from count bytes room = firstOf (partTests from count bytes room)
+
+-- a slice with so many rows from a place on, each at the place that it has in the table, the rest of which stays
+unfoldable pub partOf : ℕ → ℕ → List ℕ → List ℕ → List ℕ
+partOf from count bytes slice = take from slice ++ (build count (rowFrom (8 * from) bytes) ++ drop (from + count) slice)
+
+-- the slice after the part reader
+unfoldable pub partWrites : ℕ → ℕ → List ℕ → List ℕ → List ℕ
+partWrites from count bytes slice =
+    cond (eqb (partRefusal from count bytes (length slice)) 0) (partOf from count bytes slice) slice

@@ -1,4 +1,4 @@
-// The run file: the heading reader and the table reader. All numbers stand most significant byte first.
+// The run file: the heading reader, the table reader and the reader of a part of a table. All numbers stand most significant byte first.
 ghost use mathlib.Core.Path.{_≡_};
 ghost use mathlib.Core.List.{List};
 ghost use mathlib.Core.Bool.{false, not, _&&_};
@@ -8,7 +8,16 @@ ghost use lib.ListN.{length};
 ghost use Rattle.counting.specs.Count.{build, front};
 ghost use Rattle.sizes.specs.Sizes.{outside, tooMany, soundZero};
 ghost use Rattle.runfile.specs.File.{number, marked, nOf, tOf, headingBytes, rowFrom, headingRow, fourFrom};
-ghost use Rattle.runfile.specs.Reply.{headingRefusal, headingOf, headingReply, headingWrites, tableRefusal, tableWrites};
+ghost use Rattle.runfile.specs.Reply.{
+  headingRefusal,
+  headingOf,
+  headingReply,
+  headingWrites,
+  tableRefusal,
+  tableWrites,
+  partRefusal,
+  partWrites,
+};
 
 // The reply of the heading reader: the refusal's number, or 0 with what the heading says.
 pub struct Heading {
@@ -254,5 +263,37 @@ pub fn read_table(n: u8, bytes: &[u8], rows: &mut [u64]) -> u8
         return refused;
     }
     write_rows(bytes, 0, sizes::table_rows(n), rows);
+    0
+}
+
+// Refusals 8 and 10 of a part of a table, for a slice of so many rows.
+fn part_refusal(bytes: &[u8], from: usize, count: usize, room: usize) -> u8
+    ensures { λ r. ⌜ r ≡ partRefusal from count (now (bytes .entry)) room ⌝ }
+{
+    let whole = bytes.len() / 8;
+    if whole < from {
+        return 8;
+    }
+    if whole - from < count {
+        return 8;
+    }
+    if room < from + count {
+        return 10;
+    }
+    0
+}
+
+// The part reader: so many of a table's rows from a place on, each to its own place of the slice. Who needs some senders' rows
+// alone reads those. Refusals 8, 10.
+pub fn read_part(bytes: &[u8], from: usize, count: usize, rows: &mut [u64]) -> u8
+    ensures { λ r. ⌜ r ≡ partRefusal from count (now (bytes .entry)) (length (now (rows .entry))) ⌝ }
+    ensures { λ r. ⌜ now (rows .exit) ≡ partWrites from count (now (bytes .entry)) (now (rows .entry)) ⌝ }
+{
+    let refused = part_refusal(bytes, from, count, rows.len());
+    if refused != 0 {
+        return refused;
+    }
+    let end = from + count;
+    write_rows(bytes, 8 * from, count, &mut rows[from..end]);
     0
 }
