@@ -57,10 +57,10 @@ module _ (n t faulty : ℕ) where
     start-goes-on e = let s = setting-passes e in rw (s .pass4, s .pass5, s .pass6) refl
 
     -- the replies of a start
-    pub start-refused : (r : ℕ) → r ≡ startRefusal n t faulty rows → (r ≡ 0 → ⊥) →
-        _≡_ {A = Next} (record { refusal = r; run = zeros }) (startReply n t faulty rows)
+    pub start-refused : (r : ℕ) (s : Run) → r ≡ startRefusal n t faulty rows → (r ≡ 0 → ⊥) → s ≡ zeros →
+        _≡_ {A = Next} (record { refusal = r; run = s }) (startReply n t faulty rows)
     unfolding startReply
-    start-refused r e h = rw (← e, ne-eqb r 0 h) refl
+    start-refused r s e h z = rw (← e, ne-eqb r 0 h, z) refl
 
     pub start-taken : (s : Run) → startRefusal n t faulty rows ≡ 0 → s ≡ startRun n t faulty rows →
         _≡_ {A = Next} (record { refusal = 0; run = s }) (startReply n t faulty rows)

@@ -15,6 +15,7 @@ ghost use Rattle.run.specs.State.{
   startRow,
   startRefusal,
   startReply,
+  zeros,
   badEntry,
   badPlace,
   tooManySent,
@@ -121,24 +122,30 @@ fn start_refusal(n: u8, t: u8, faulty: u16, rows: &[u64]) -> u8
     0
 }
 
+// A state of zeros, which stands where there is no run.
+pub fn no_run() -> Run
+    ensures { λ r. ⌜ r ≡ zeros ⌝ }
+{
+    Run {
+        n: 0,
+        t: 0,
+        faulty: 0,
+        done: 0,
+        sent: 0,
+        rows: [0; 13],
+        lists: [0; 13],
+    }
+}
+
 // A start: the state before the first iteration, from n, t, the faulty set and n rows. Refusals 4, 5, 6, 11, 9.
 pub fn start(n: u8, t: u8, faulty: u16, rows: &[u64]) -> Next
     ensures { λ r. ⌜ r ≡ startReply n t faulty (now (rows .entry)) ⌝ }
 {
     let refusal = start_refusal(n, t, faulty, rows);
     if refusal != 0 {
-        let zeros = Run {
-            n: 0,
-            t: 0,
-            faulty: 0,
-            done: 0,
-            sent: 0,
-            rows: [0; 13],
-            lists: [0; 13],
-        };
         return Next {
             refusal,
-            run: zeros,
+            run: no_run(),
         };
     }
     let held = start_rows(n, faulty, rows);

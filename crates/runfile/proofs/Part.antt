@@ -1,18 +1,18 @@
 -- A part of a table: a call that is not refused has its rows in the bytes and room in the slice, a refused one leaves the slice, and
 -- afterwards each place of the part holds the table's row of that place and every other place what it held. Assumes nothing.
 use mathlib.Core.Path.{_≡_, sym, ap, _∙_}
-use mathlib.Core.List.{List, _++_}
+use mathlib.Core.List.{List, [], _++_}
 use mathlib.Core.Logic.{⊎-elim}
 use Prim.Native.Nat.{ℕ, _+_, _-_, _*_, _≤_, _<_}
 use native.Mathlib.Omega.{arith}
 use lib.Dec.{ltb}
 use lib.ListN.{length, getD, take, drop, length-append, length-drop, List·getD-append}
 use lib.Seq.{length-take-le, getD-take, getD-drop, getD-append-add}
-use borrow.Author.Tests.{ltb-true, ltb-false, eq-eqb, ne-eqb}
+use borrow.Author.Tests.{ltb-true, ltb-false, le-ltb, eq-eqb, ne-eqb}
 use Rattle.counting.specs.Count.{build}
 use Rattle.counting.proofs.Bools.{cond-true, cond-false, either}
 use Rattle.counting.proofs.Build.{length-build, getD-build}
-use Rattle.counting.proofs.Refuse.{accepted}
+use Rattle.counting.proofs.Refuse.{accepted, passed, none-left}
 use Rattle.runfile.specs.File.{number, rowFrom, tableRow}
 use Rattle.runfile.specs.Reply.{partTests, partRefusal, partOf, partWrites}
 
@@ -28,6 +28,12 @@ part-accepted from count bytes room h =
     let a8 = accepted 7 _ _ h in
     let a10 = accepted 9 _ _ (a8 .1) in
     record { within = ltb-false _ _ (a8 .0); enough = ltb-false _ _ (a10 .0) }
+
+-- and a part that passes them is not refused
+pub part-passes : (from count : ℕ) (bytes : List ℕ) (room : ℕ) → 8 * (from + count) ≤ length bytes → from + count ≤ room →
+    partRefusal from count bytes room ≡ 0
+unfolding partRefusal partTests
+part-passes from count bytes room w e = passed 8 _ (le-ltb _ _ w) ∙ passed 10 [] (le-ltb _ _ e) ∙ none-left
 
 module _ (from count : ℕ) (bytes slice : List ℕ) where
   pub part-leaves : (partRefusal from count bytes (length slice) ≡ 0 → ⊥) → partWrites from count bytes slice ≡ slice

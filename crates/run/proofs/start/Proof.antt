@@ -1,7 +1,7 @@
 -- `run::start` meets its contract: it refuses with a state of zeros, and otherwise builds the state from the rows. Assumes nothing.
 use mathlib.Core.Path.{sym, _∙_}
 use lib.ListN.{replicate}
-use Rattle.run.specs.State.{startRun, zeros}
+use Rattle.run.specs.State.{startRun}
 use Rattle.run.proofs.Accepted.{is-start-accepted}
 use Rattle.run.proofs.Refusals.{start-refused, start-taken}
 use borrow.Author.Needs.{needs}
@@ -11,9 +11,12 @@ use Rattle.run.proofs.start.Tie as tie
 start-refusal-requires : tie.Need-start-refusal-requires
 start-refusal-requires c κs = search needs
 
+no-run-requires : tie.Need-no-run-requires
+no-run-requires c κs = search needs
+
 returns : tie.Need-returns
-unfolding zeros
-returns c = start-refused _ _ _ _ _ (c .before .start-refusal .ensures) (c .if1 .taken)
+returns c =
+    start-refused _ _ _ _ _ _ (c .before .before .start-refusal .ensures) (c .before .if1 .taken) (c .no-run .ensures)
 
 start-rows-requires : tie.Need-start-rows-requires
 start-rows-requires c κs = is-start-accepted _ _ _ _ (sym (c .before .start-refusal .ensures) ∙ c .if1 .left) .pass11
@@ -26,4 +29,4 @@ returns-2 c =
     (λ i. record { n = a .n; t = a .t; faulty = a .faulty; done = 0; sent = 0; rows = c .start-rows .ensures i; lists = replicate 13 0 })
 
 pub start-spec : {M : Type 1} → statement M
-start-spec = tie.close (tie.spec start-refusal-requires returns start-rows-requires returns-2)
+start-spec = tie.close (tie.spec start-refusal-requires no-run-requires returns start-rows-requires returns-2)
