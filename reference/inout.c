@@ -1,26 +1,60 @@
-/* Standard input in pieces and standard output through one buffer. */
+/* The input in pieces and standard output through one buffer. What fails here ends the program. */
+#define _POSIX_C_SOURCE 200809L
 #include "notebook.h"
 
+#include <errno.h>
+#include <fcntl.h>
 #include <stdio.h>
 #include <stdlib.h>
 #include <string.h>
+#include <unistd.h>
 
 enum { OUT_BYTES = 65536 };
 
 static char out[OUT_BYTES];
 static size_t out_used;
+static FILE *input;
+static const char *input_name;
+
+/* One line on standard error: a name with line breaks in it must not make two. */
+static _Noreturn void fail(const char *doing, const char *name)
+{
+    const char *reason = strerror(errno);
+    fprintf(stderr, "notebook: cannot %s ", doing);
+    for (; *name != '\0'; name++)
+        fputc((unsigned char)*name < ' ' ? '?' : *name, stderr);
+    fprintf(stderr, ": %s\n", reason);
+    exit(STATUS_FAILED);
+}
+
+/* Standard input where no name is given. */
+void read_from(const char *name)
+{
+    input = name == NULL ? stdin : fopen(name, "rb");
+    input_name = name == NULL ? "standard input" : name;
+    if (input == NULL)
+        fail("open", name);
+}
+
+/* A closed standard input counts as an empty one. */
+static int is_closed(void)
+{
+    return input == stdin && errno == EBADF && fcntl(STDIN_FILENO, F_GETFD) == -1;
+}
 
 /* Reads until the count is reached or the input ends, and gives how many bytes came. */
 size_t take(uint8_t *bytes, size_t count)
 {
-    return fread(bytes, 1, count, stdin);
+    size_t came = fread(bytes, 1, count, input);
+    if (came < count && ferror(input) && !is_closed())
+        fail("read", input_name);
+    return came;
 }
 
-/* A reader that has gone away ends the program: nobody is left to print to. */
 void put_all(void)
 {
     if (fwrite(out, 1, out_used, stdout) != out_used || fflush(stdout) != 0)
-        exit(1);
+        fail("write to", "standard output");
     out_used = 0;
 }
 

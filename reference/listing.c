@@ -71,7 +71,8 @@ static enum refusal list_iterations(struct state *state)
     return take(&one_more, 1) == 0 ? FINE : WRONG_BYTES;
 }
 
-void list_run(void)
+/* Prints the listing and gives what its last line says: FINE for `sent`. */
+enum refusal list_run(void)
 {
     struct state state;
     enum refusal refusal = take_heading(&state);
@@ -87,4 +88,5 @@ void list_run(void)
         put_refusal(refusal);
     }
     put_all();
+    return refusal;
 }

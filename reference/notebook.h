@@ -26,6 +26,9 @@ enum refusal {
     WRONG_STATE = 14
 };
 
+/* The status of a program that could not run, open, read or write. */
+enum { STATUS_FAILED = 2 };
+
 struct state {
     uint8_t n, t;
     uint16_t faulty;
@@ -67,6 +70,7 @@ enum refusal read_heading(const uint8_t *bytes, size_t count, uint64_t *slice, s
 enum refusal read_table(uint8_t n, const uint8_t *bytes, size_t count, uint64_t *slice, size_t length);
 
 /* inout.c */
+void read_from(const char *name);
 size_t take(uint8_t *bytes, size_t count);
 void put_word(const char *word);
 void put_number(uint64_t number);
@@ -74,7 +78,7 @@ void put_end_of_line(void);
 void put_all(void);
 
 /* listing.c and replies.c */
-void list_run(void);
+enum refusal list_run(void);
 void answer_requests(void);
 
 #endif
