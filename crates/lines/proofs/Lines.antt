@@ -12,9 +12,10 @@ use lib.Arith.{le-zero}
 use lib.Dec.{ltb}
 use lib.ListN.{length, getD, length-append}
 use borrow.Author.Tests.{lt-ltb, le-ltb, ltb-true, ltb-false}
+use Rattle.counting.specs.Count.{sum}
 use Rattle.counting.proofs.Bools.{cond-true, cond-false}
 use Rattle.counting.proofs.Count.{at-or-below}
-use Rattle.lines.specs.Line.{field, fields, lineOf, tooShort, placed, lineReply, lineWrites}
+use Rattle.lines.specs.Line.{decimal, field, fields, lineOf, tooShort, placed, lineReply, lineWrites}
 
 -- the turn of a loop over the numbers
 pub fields-turn : (numbers : List ℕ) (k : ℕ) → fields numbers (k + 1) ≡ fields numbers k ++ field (getD numbers k 0)
@@ -43,6 +44,18 @@ unfolding lineOf
 line-length word numbers =
     length-append (word ++ fields numbers (length numbers)) (10 ∷ [])
     ∙ omega (arith, length-append word (fields numbers (length numbers)))
+
+-- a line by the digits of its numbers: the word, a space and the digits of each, the newline
+fields-size : (numbers : List ℕ) (k : ℕ) → length (fields numbers k) ≡ sum k (λ i. 1 + length (decimal (getD numbers i 0)))
+unfolding fields field sum
+fields-size numbers zero = refl
+fields-size numbers (suc k) =
+    length-append (fields numbers k) (32 ∷ decimal (getD numbers k 0))
+    ∙ omega (arith, fields-size numbers k)
+
+pub line-size : (word numbers : List ℕ) →
+    length (lineOf word numbers) ≡ length word + sum (length numbers) (λ i. 1 + length (decimal (getD numbers i 0))) + 1
+line-size word numbers = omega (arith, line-length word numbers, fields-size numbers (length numbers))
 
 module _ (word numbers : List ℕ) where
   pub line-refused : (room : ℕ) → room < length (lineOf word numbers) →

@@ -27,24 +27,25 @@ abbrev pub refused-word : List ℕ
 refused-word = 114 ∷ 101 ∷ 102 ∷ 117 ∷ 115 ∷ 101 ∷ 100 ∷ []
 
 -- line `run`: n, t and the faulty set
-unfoldable pub runLine : Run → List ℕ
-runLine s = lineOf run-word (s .n ∷ s .t ∷ s .faulty ∷ [])
+unfoldable pub runLine : ℕ → ℕ → ℕ → List ℕ
+runLine n t faulty = lineOf run-word (n ∷ t ∷ faulty ∷ [])
 
--- line `at` of box i: iteration, box, row and list; a faulty box has none
+-- line `at`: iteration, box, row and list
+unfoldable pub atLine : ℕ → ℕ → ℕ → ℕ → List ℕ
+atLine iteration i row list = lineOf at-word (iteration ∷ (i + 1) ∷ row ∷ list ∷ [])
+
+-- the last line: `sent` with the messages, or `refused` and the number in place of the next line due
+unfoldable pub lastLine : ℕ → ℕ → List ℕ
+lastLine refusal sent = cond (eqb refusal 0) (lineOf sent-word (sent ∷ [])) (lineOf refused-word (refusal ∷ []))
+
+-- the line of box i after an iteration; a faulty box has none
 unfoldable pub boxLine : Run → ℕ → List ℕ
-boxLine s i =
-    cond (sound (s .faulty) i)
-    (lineOf at-word (s .done ∷ (i + 1) ∷ getD (s .rows) i 0 ∷ getD (s .lists) i 0 ∷ []))
-    []
+boxLine s i = cond (sound (s .faulty) i) (atLine (s .done) i (getD (s .rows) i 0) (getD (s .lists) i 0)) []
 
--- the lines `at` of the first k boxes, in order
+-- the lines of the first k boxes, in order
 unfoldable pub boxLines : Run → ℕ → List ℕ
 boxLines s zero = []
 boxLines s (suc k) = boxLines s k ++ boxLine s k
-
--- the last line: `sent` with the messages, or `refused` and the number in place of the next line due
-unfoldable pub lastLine : Next → List ℕ
-lastLine r = cond (eqb (r .refusal) 0) (lineOf sent-word (r .run .sent ∷ [])) (lineOf refused-word (r .refusal ∷ []))
 
 -- a run that ends by a refusal, or by 0 where there is none: the last state, and zeros where the file is refused
 unfoldable pub endedBy : ℕ → Run → Next
@@ -73,9 +74,13 @@ module _ (bytes : List ℕ) where
   unfoldable pub endsWith : ℕ
   endsWith = orElse (refusedStart bytes) refusedLater
 
+  -- the line of the start
+  unfoldable pub startLine : List ℕ
+  startLine = let s = stateAfter bytes 0 in runLine (s .n) (s .t) (s .faulty)
+
   -- the lines before the last: none where the heading or the start is refused
   unfoldable pub firstLines : List ℕ
-  firstLines = cond (eqb (refusedStart bytes) 0) (runLine (stateAfter bytes 0) ++ iterationLines doneOf) []
+  firstLines = cond (eqb (refusedStart bytes) 0) (startLine ++ iterationLines doneOf) []
 
   -- the outcome of a file: the refusal with which its listing ends, and the last state
   unfoldable pub outcomeOf : Next
@@ -83,7 +88,7 @@ module _ (bytes : List ℕ) where
 
   -- the listing of a file
   unfoldable pub listingOf : List ℕ
-  listingOf = firstLines ++ lastLine outcomeOf
+  listingOf = firstLines ++ lastLine (outcomeOf .refusal) (outcomeOf .run .sent)
 
   -- the reply of a listing to a slice of so many bytes: refusal 10 where the text does not fit, else its size and how it ends
   unfoldable pub listReply : ℕ → Listed

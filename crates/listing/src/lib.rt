@@ -20,6 +20,8 @@ ghost use Rattle.listing.specs.Inside.{
   ToldBy,
 };
 ghost use Rattle.listing.specs.Listing.{
+  runLine,
+  atLine,
   boxLine,
   boxLines,
   lastLine,
@@ -121,7 +123,16 @@ fn advance(s: Run, bytes: &[u8], table: &mut [u64]) -> Next
     s.iterate(&table[..rows])
 }
 
-// Puts the line `at` of box i at a place of the text, nothing for a faulty box, and gives the place behind it.
+// Puts a line `at` at a place of the text: iteration, box, row and list, and gives the place behind it.
+fn put_at(done: u8, i: usize, row: u64, list: u16, text: &mut [u8], at: usize) -> usize
+    requires { ⌜ (i < 13) × (at + 37 ≤ length (now text)) ⌝ }
+    ensures { λ r. ⌜ Put (now (text .entry)) (now (text .exit)) at r (atLine done i row list) × (r ≤ at + 37) ⌝ }
+{
+    let numbers = [done as u64, (i + 1) as u64, row, list as u64];
+    lines::put_line(text, at, b"at", &numbers)
+}
+
+// Puts the line `at` of box i, nothing for a faulty box.
 fn put_box(s: Run, i: usize, text: &mut [u8], at: usize) -> usize
     requires { ⌜ (i < 13) × (at + 37 ≤ length (now text)) ⌝ }
     ensures { λ r. ⌜ Put (now (text .entry)) (now (text .exit)) at r (boxLine s i) × (r ≤ at + 37) ⌝ }
@@ -129,8 +140,7 @@ fn put_box(s: Run, i: usize, text: &mut [u8], at: usize) -> usize
     if sizes::is_member(s.faulty, i) {
         return at;
     }
-    let numbers = [s.done as u64, (i + 1) as u64, s.rows[i], s.lists[i] as u64];
-    lines::put_line(text, at, b"at", &numbers)
+    put_at(s.done, i, s.rows[i], s.lists[i], text, at)
 }
 
 // Puts the lines `at` of all sound boxes, in order.
@@ -196,6 +206,14 @@ fn tell_iterations(first: Run, bytes: &[u8], table: &mut [u64], text: &mut [u8],
     }
 }
 
+// Puts the line `run` at the front of the text, and gives the place behind it.
+fn put_run(n: u8, t: u8, faulty: u16, text: &mut [u8]) -> usize
+    requires { ⌜ 18 ≤ length (now text) ⌝ }
+    ensures { λ r. ⌜ Put (now (text .entry)) (now (text .exit)) 0 r (runLine n t faulty) × (r ≤ 18) ⌝ }
+{
+    lines::put_line(text, 0, b"run", &[n as u64, t as u64, faulty as u64])
+}
+
 // The outcome of a file, and all lines but the last.
 fn tell_lines(bytes: &[u8], table: &mut [u64], text: &mut [u8]) -> Told
     requires { ⌜ (length (now table) ≡ 4563) × (length (now text) ≡ 2449) ⌝ }
@@ -209,19 +227,19 @@ fn tell_lines(bytes: &[u8], table: &mut [u64], text: &mut [u8]) -> Told
         };
     }
     let s = first.run;
-    let size = lines::put_line(text, 0, b"run", &[s.n as u64, s.t as u64, s.faulty as u64]);
+    let size = put_run(s.n, s.t, s.faulty, text);
     tell_iterations(s, bytes, table, text, size)
 }
 
 // Puts the last line at a place of the text, and gives the place behind it.
-fn put_last(last: Next, text: &mut [u8], at: usize) -> usize
+fn put_last(refusal: u8, sent: u64, text: &mut [u8], at: usize) -> usize
     requires { ⌜ at + 26 ≤ length (now text) ⌝ }
-    ensures { λ r. ⌜ Put (now (text .entry)) (now (text .exit)) at r (lastLine last) ⌝ }
+    ensures { λ r. ⌜ Put (now (text .entry)) (now (text .exit)) at r (lastLine refusal sent) × (r ≤ at + 26) ⌝ }
 {
-    if last.refusal != 0 {
-        return lines::put_line(text, at, b"refused", &[last.refusal as u64]);
+    if refusal != 0 {
+        return lines::put_line(text, at, b"refused", &[refusal as u64]);
     }
-    lines::put_line(text, at, b"sent", &[last.run.sent])
+    lines::put_line(text, at, b"sent", &[sent])
 }
 
 // The outcome of a file, and its whole listing.
@@ -232,7 +250,7 @@ fn tell(bytes: &[u8], text: &mut [u8]) -> Told
     let mut table = [0u64; 4563];
     let told = tell_lines(bytes, &mut table, text);
     let last = told.last;
-    let size = put_last(last, text, told.size);
+    let size = put_last(last.refusal, last.run.sent, text, told.size);
     Told { last, size }
 }
 
