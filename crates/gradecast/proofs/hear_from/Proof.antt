@@ -1,26 +1,29 @@
--- `gradecast::hear_from` meets its contract: after k turns the rows about the leaders below k are put down, behind those of the senders
--- below j. What is left of n falls. Assumes nothing.
+-- `gradecast::hear_from` meets its contract: after k turns what the box hears from j about the leaders below k is put down,
+-- and the other senders' rows stand as they did. What is left of n falls. Assumes nothing.
 use mathlib.Core.Path.{_≡_, ap, _∙_}
 use Prim.Native.Nat.{ℕ, _+_, _*_, _-_, _≤_}
 use native.Mathlib.Omega.{arith}
 use lib.ListN.{length, getD}
 use Rattle.sizes.proofs.Laws.{table-le}
 use Rattle.gradecast.specs.Steps.{hears, sends}
-use Rattle.gradecast.specs.Inside.{heardFrom, HeardTo}
-use Rattle.gradecast.proofs.Columns.{heard-turn}
+use Rattle.gradecast.specs.Inside.{heardFrom, FromSender}
+use Rattle.gradecast.proofs.Columns.{sender-none, sender-turn, sender-whole}
 use Rattle.gradecast.proofs.Cells.{part-fits}
 use borrow.Author.Needs.{needs}
 use Rattle.gradecast.proofs.hear_from.Statement.{statement}
 use Rattle.gradecast.proofs.hear_from.Tie as tie
 
 abbrev Inv-loop : tie.InvT-loop
-Inv-loop base n list faulty table said i j heard₀ k₀ heard k = (k ≤ n) × (length heard ≡ length heard₀) × HeardTo base n list faulty table said i (j * n + k) heard
+Inv-loop base n list faulty table said i j heard₀ k₀ heard k =
+    (k ≤ n) ×
+    (length heard ≡ length heard₀) ×
+    FromSender n j k (λ m. heardFrom base n list faulty table said i m j) heard₀ heard
 
 abbrev μ-loop : tie.MeasureT-loop
 μ-loop base n list faulty table said i j heard₀ k₀ heard k = n - k
 
 loop-holds : tie.Need-loop-holds Inv-loop μ-loop
-loop-holds c = (search needs, search needs, λ a b ha hb l. c .before .before .pre .4 a b ha hb (omega arith))
+loop-holds c = (search needs, search needs, sender-none _)
 
 place-from-requires : tie.Need-place-from-requires Inv-loop μ-loop
 place-from-requires c κs = (
@@ -71,7 +74,7 @@ loop-again c =
     let so-far = c .before .before .before .before .loop in (
       search needs,
       search needs,
-      heard-turn (a .base) (a .n) (a .list) (a .faulty) (a .table .now) (a .said .now) (a .i) (a .j) (so-far .k) (so-far .heard) (p .0 .high) (omega arith) (p .1 .is-leader) (so-far .inv .1 ∙ p .3) (so-far .inv .2)
+      sender-turn _ (so-far .k) (so-far .heard) (p .0 .high) (omega arith) (p .1 .is-leader) (so-far .inv .1 ∙ p .3) (so-far .inv .2)
           (c .hear .ensures
           ∙ ap (λ (m : ℕ). hears (a .list) (a .j) (sends (a .faulty) (a .table .now) (a .j) m (getD (a .said .now) (a .j * a .n + so-far .k) 0)))
           (c .before .before .place-from .ensures .0)),
@@ -81,7 +84,7 @@ same-length : tie.Need-same-length Inv-loop μ-loop
 same-length c = search needs
 
 returns : tie.Need-returns Inv-loop μ-loop
-returns c = λ a b ha hb l. c .before .loop .inv .2 a b ha hb (omega arith)
+returns c = sender-whole _ (omega arith) (c .before .loop .inv .2)
 
 pub hear-from-spec : {M : Type 1} → statement M
 hear-from-spec =
