@@ -1,5 +1,5 @@
--- Sets of boxes in one number: the members of a set that was built from a test, of a set within a bound, and of two sets
--- together.
+-- Sets of boxes in one number: the members of a set that was built from a test, of a set within a bound, and of two
+-- sets together.
 -- Assumes nothing.
 use mathlib.Core.Path.{_≡_, refl, sym, ap, _∙_, subst}
 use mathlib.Core.Bool.{Bool, true, false, cond, _||_}

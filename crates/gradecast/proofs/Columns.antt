@@ -66,7 +66,8 @@ module _ {n j : ℕ} (g : ℕ → ℕ) {first : List ℕ} where
 -- one more sender's rows are there
 pub senders-turn : {n j : ℕ} (g : ℕ → ℕ → ℕ) {heard last : List ℕ} → j < n → SendersTo n j g heard →
     FromSender n j n (λ k. g k j) heard last → SendersTo n (j + 1) g last
-senders-turn {n} {j} g {heard} {last} hj h p = λ k b hk l. ⊎-elim (at k b hk) (below k b hk) (at-or-below b j (omega arith))
+senders-turn {n} {j} g {heard} {last} hj h p =
+    λ k b hk l. ⊎-elim (at k b hk) (below k b hk) (at-or-below b j (omega arith))
   where
     at : (k b : ℕ) → k < n → b ≡ j → getD last (k * n + b) 0 ≡ g k b
     at k b hk q = ap (λ (m : ℕ). getD last (k * n + m) 0) q ∙ p .put k hk ∙ ap (g k) (sym q)
@@ -75,8 +76,8 @@ senders-turn {n} {j} g {heard} {last} hj h p = λ k b hk l. ⊎-elim (at k b hk)
     below k b hk l = p .stays k b (omega arith) (λ q. absurd (omega arith)) ∙ h k b hk l
 
 -- a leader's column
-pub column-heard : (base n list faulty : ℕ) (table said : List ℕ) (i : ℕ) (heard : List ℕ) → n ≤ 13 → length heard ≡ 169 →
-    AllHeard base n list faulty table said i heard →
+pub column-heard : (base n list faulty : ℕ) (table said : List ℕ) (i : ℕ) (heard : List ℕ) →
+    n ≤ 13 → length heard ≡ 169 → AllHeard base n list faulty table said i heard →
     (k : ℕ) → k < n → columnOf n heard k ≡ build n (heardFrom base n list faulty table said i k)
 unfolding columnOf
 column-heard base n list faulty table said i heard high size h k hk =
@@ -133,23 +134,33 @@ module _ (n faulty : ℕ) (lists table said : List ℕ) (i k : ℕ) (leader : k 
 
 -- what a sound box makes of the columns that it heard
 module _ (n t faulty : ℕ) (lists table said heard : List ℕ) (i : ℕ) (high : n ≤ 13) (size : length heard ≡ 169) (is-sound : member faulty i ≡ false) (rows : List ℕ) where
-  pub votes-heard : AllHeard (n * n) n (getD lists i 0) faulty table said i heard → SaidSecond n faulty lists table said rows →
+  pub votes-heard : AllHeard (n * n) n (getD lists i 0) faulty table said i heard →
+      SaidSecond n faulty lists table said rows →
       (k : ℕ) → k < n → voteOf t (columnOf n heard k) ≡ ofSound faulty (voted n t faulty rows lists table) i k
   unfolding voted
   votes-heard h e k l =
       ap (voteOf t) (column-heard (n * n) n (getD lists i 0) faulty table said i heard high size h k l ∙ column-2 n faulty lists table said i k l rows e)
       ∙ sym (of-sound faulty (voted n t faulty rows lists table) i k is-sound)
 
-  module _ (h : AllHeard (n * n + n * n * n) n (getD lists i 0) faulty table said i heard) (e : SaidThird n t faulty lists table said rows) where
-    third : (k : ℕ) → k < n → columnOf n heard k ≡ column3 n t faulty rows lists table i k
-    third k l =
-        column-heard (n * n + n * n * n) n (getD lists i 0) faulty table said i heard high size h k l
-        ∙ column-3 n faulty lists table said i k l t rows e
+  module _
+      (h : AllHeard (n * n + n * n * n) n (getD lists i 0) faulty table said i heard)
+      (e : SaidThird n t faulty lists table said rows)
+    where
+      third : (k : ℕ) → k < n → columnOf n heard k ≡ column3 n t faulty rows lists table i k
+      third k l =
+          column-heard (n * n + n * n * n) n (getD lists i 0) faulty table said i heard high size h k l
+          ∙ column-3 n faulty lists table said i k l t rows e
 
-    pub rows-heard : (k : ℕ) → k < n → gradedRow t (columnOf n heard k) ≡ ofSound faulty (gradeRow n t faulty rows lists table) i k
-    unfolding gradeRow
-    rows-heard k l = ap (gradedRow t) (third k l) ∙ sym (of-sound faulty (gradeRow n t faulty rows lists table) i k is-sound)
+      pub rows-heard : (k : ℕ) → k < n →
+          gradedRow t (columnOf n heard k) ≡ ofSound faulty (gradeRow n t faulty rows lists table) i k
+      unfolding gradeRow
+      rows-heard k l =
+          ap (gradedRow t) (third k l)
+          ∙ sym (of-sound faulty (gradeRow n t faulty rows lists table) i k is-sound)
 
-    pub confidences-heard : (k : ℕ) → k < n → confidenceOf t (columnOf n heard k) ≡ ofSound faulty (confidence n t faulty rows lists table) i k
-    unfolding confidence
-    confidences-heard k l = ap (confidenceOf t) (third k l) ∙ sym (of-sound faulty (confidence n t faulty rows lists table) i k is-sound)
+      pub confidences-heard : (k : ℕ) → k < n →
+          confidenceOf t (columnOf n heard k) ≡ ofSound faulty (confidence n t faulty rows lists table) i k
+      unfolding confidence
+      confidences-heard k l =
+          ap (confidenceOf t) (third k l)
+          ∙ sym (of-sound faulty (confidence n t faulty rows lists table) i k is-sound)

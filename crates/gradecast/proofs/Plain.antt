@@ -1,5 +1,5 @@
--- What every box hears alike. From a sender that is neither faulty nor on a list a box hears what the sender says, so the rows
--- that were put down once are what it hears; and they stay there while the rows of the other senders are put down.
+-- What every box hears alike. From a sender that is neither faulty nor on a list a box hears what the sender says, so
+-- the rows that were put down once are what it hears; and they stay there while the other senders' rows are put down.
 -- Assumes nothing.
 use mathlib.Core.Path.{_≡_, refl, sym, ap, _∙_}
 use mathlib.Core.Bool.{Bool, true, false, _||_}
@@ -56,7 +56,8 @@ module _ (n faulty : ℕ) (lists said : List ℕ) where
         listed a = member (getD lists a 0) j
 
     -- so its rows are there already
-    pub plain-turn : (j : ℕ) (heard : List ℕ) → j < n → oddTo 13 faulty lists j ≡ false → PlainHeard n faulty lists said heard →
+    pub plain-turn : (j : ℕ) (heard : List ℕ) → j < n → oddTo 13 faulty lists j ≡ false →
+        PlainHeard n faulty lists said heard →
         SendersTo n j (heardFrom base n (getD lists i 0) faulty table said i) heard →
         SendersTo n (j + 1) (heardFrom base n (getD lists i 0) faulty table said i) heard
     plain-turn j heard hj o plain h = λ k b hk l. ⊎-elim (at k b hk) (h k b hk) (at-or-below b j (omega arith))
@@ -68,7 +69,7 @@ module _ (n faulty : ℕ) (lists said : List ℕ) where
             plain k b hk (omega arith) ob ∙ sym (plain-heard k b ob)
 
   -- the rows of another sender leave them as they are
-  pub plain-stays : (j : ℕ) (g : ℕ → ℕ) (heard last : List ℕ) → oddTo 13 faulty lists j ≡ true → FromSender n j n g heard last →
-      PlainHeard n faulty lists said heard → PlainHeard n faulty lists said last
+  pub plain-stays : (j : ℕ) (g : ℕ → ℕ) (heard last : List ℕ) → oddTo 13 faulty lists j ≡ true →
+      FromSender n j n g heard last → PlainHeard n faulty lists said heard → PlainHeard n faulty lists said last
   plain-stays j g heard last o p h =
       λ k b hk hb plain. p .stays k b hb (λ q. never (ap (oddTo 13 faulty lists) q ∙ o) plain) ∙ h k b hk hb plain

@@ -120,7 +120,8 @@ fn odd_boxes(faulty: u16, lists: &[u16; 13]) -> u16
 // What box j says about every leader, put down as it is.
 fn hear_plain_from(n: usize, said: &[u64; 169], j: usize, heard: &mut [u64])
     requires { ⌜ (n ≤ 13) × (j < n) × (length (now heard) ≡ 169) ⌝ }
-    ensures { λ r. ⌜ FromSender n j n (λ k. saidBy n (now (said .entry)) k j) (now (heard .entry)) (now (heard .exit)) ⌝ }
+    ensures { λ r. ⌜ FromSender n j n (λ k. saidBy n (now (said .entry)) k j)
+        (now (heard .entry)) (now (heard .exit)) ⌝ }
 {
     let mut k: usize = 0;
     while k < n {
@@ -129,7 +130,7 @@ fn hear_plain_from(n: usize, said: &[u64; 169], j: usize, heard: &mut [u64])
     }
 }
 
-// What all boxes say about all leaders, a column for each leader. It is put down once for all boxes, since from most senders
+// What all boxes say about all leaders, a column for each leader. It is put down once for all boxes: from most senders
 // they all hear this.
 fn hear_plain(n: usize, said: &[u64; 169], heard: &mut [u64])
     requires { ⌜ (n ≤ 13) × (length (now heard) ≡ 169) ⌝ }
@@ -156,7 +157,9 @@ fn hear_from(
     heard: &mut [u64],
 )
     requires { ⌜ Ready n (now table) × Among n i j × (base + n * n * n ≤ tableRows n) × (length (now heard) ≡ 169) ⌝ }
-    ensures { λ r. ⌜ FromSender n j n (λ k. heardFrom base n list faulty (now (table .entry)) (now (said .entry)) i k j) (now (heard .entry)) (now (heard .exit)) ⌝ }
+    ensures { λ r. ⌜ FromSender n j n
+        (λ k. heardFrom base n list faulty (now (table .entry)) (now (said .entry)) i k j)
+        (now (heard .entry)) (now (heard .exit)) ⌝ }
 {
     let mut k: usize = 0;
     while k < n {
@@ -166,8 +169,8 @@ fn hear_from(
     }
 }
 
-// What box i hears from all boxes about all leaders, a column for each leader, where what the senders that are neither faulty
-// nor listed say is there already: the others are gone through, and those stay for the next box.
+// What box i hears from all boxes about all leaders, a column for each leader. What the senders say that are neither
+// faulty nor listed is there already, and stays for the next box; only the other senders are gone through.
 fn hear_all(
     base: usize,
     n: usize,
@@ -178,8 +181,10 @@ fn hear_all(
     i: usize,
     heard: &mut [u64],
 )
-    requires { ⌜ Ready n (now table) × (i < n) × (base + n * n * n ≤ tableRows n) × (length (now heard) ≡ 169) × PlainHeard n faulty (now lists) (now said) (now heard) ⌝ }
-    ensures { λ r. ⌜ AllHeard base n (getD (now (lists .entry)) i 0) faulty (now (table .entry)) (now (said .entry)) i (now (heard .exit)) ⌝ }
+    requires { ⌜ Ready n (now table) × (i < n) × (base + n * n * n ≤ tableRows n) × (length (now heard) ≡ 169) ×
+        PlainHeard n faulty (now lists) (now said) (now heard) ⌝ }
+    ensures { λ r. ⌜ AllHeard base n (getD (now (lists .entry)) i 0) faulty (now (table .entry)) (now (said .entry)) i
+        (now (heard .exit)) ⌝ }
     ensures { λ r. ⌜ PlainHeard n faulty (now (lists .entry)) (now (said .entry)) (now (heard .exit)) ⌝ }
 {
     let odd = odd_boxes(faulty, lists);
@@ -218,7 +223,8 @@ fn step3_box(
     heard: &mut [u64],
     out: &mut [u64],
 )
-    requires { ⌜ Ready n (now table) × (3 * t < n) × (i < n) × (length (now heard) ≡ 169) × (length (now out) ≡ 169) × PlainHeard n faulty (now lists) (now second) (now heard) ⌝ }
+    requires { ⌜ Ready n (now table) × (3 * t < n) × (i < n) × (length (now heard) ≡ 169) × (length (now out) ≡ 169) ×
+        PlainHeard n faulty (now lists) (now second) (now heard) ⌝ }
     ensures { λ r. ⌜ PutVotes n t faulty (now (lists .entry)) (now (table .entry)) (now (second .entry)) i (now (out .entry)) (now (out .exit)) ⌝ }
     ensures { λ r. ⌜ PlainHeard n faulty (now (lists .entry)) (now (second .entry)) (now (heard .exit)) ⌝ }
 {
@@ -282,7 +288,8 @@ fn step4_box(
     rows: &mut [u64],
     confidences: &mut [u8],
 )
-    requires { ⌜ Ready n (now table) × (3 * t < n) × (i < n) × (length (now heard) ≡ 169) × (length (now rows) ≡ 169) × (length (now confidences) ≡ 169) × PlainHeard n faulty (now lists) (now third) (now heard) ⌝ }
+    requires { ⌜ Ready n (now table) × (3 * t < n) × (i < n) × (length (now heard) ≡ 169) × (length (now rows) ≡ 169) ×
+        (length (now confidences) ≡ 169) × PlainHeard n faulty (now lists) (now third) (now heard) ⌝ }
     ensures { λ r. ⌜ PutRows n t faulty (now (lists .entry)) (now (table .entry)) (now (third .entry)) i (now (rows .entry)) (now (rows .exit)) ⌝ }
     ensures { λ r. ⌜ PutConfidences n t faulty (now (lists .entry)) (now (table .entry)) (now (third .entry)) i (now (confidences .entry)) (now (confidences .exit)) ⌝ }
     ensures { λ r. ⌜ PlainHeard n faulty (now (lists .entry)) (now (third .entry)) (now (heard .exit)) ⌝ }

@@ -1,12 +1,12 @@
--- `gradecast::hear_all` meets its contract: after j turns all that the box hears from the senders below j is there, and so is
--- what the senders say that are neither faulty nor listed. What the box hears from one of those is there already; the rows of
--- any other are put down and leave those as they are. What is left of n falls. Assumes nothing.
+-- `gradecast::hear_all` meets its contract: after j turns all that the box hears from the senders below j is there.
+-- What the senders say that are neither faulty nor listed is there all along, and is what the box hears from them; the
+-- rows of any other sender are put down and leave those as they are. What is left of n falls. Assumes nothing.
 use mathlib.Core.Path.{_≡_, sym, _∙_}
 use mathlib.Core.Logic.{⊎-elim}
 use Prim.Native.Nat.{_-_, _≤_}
 use native.Mathlib.Omega.{arith}
 use lib.ListN.{length, getD}
-use Rattle.gradecast.specs.Inside.{heardFrom, SendersTo, PlainHeard}
+use Rattle.gradecast.specs.Inside.{heardFrom, SendersTo, oddTo, PlainHeard}
 use Rattle.gradecast.proofs.Columns.{senders-turn}
 use Rattle.gradecast.proofs.Plain.{plain-turn, plain-stays}
 use borrow.Author.Needs.{needs}
@@ -47,26 +47,37 @@ add-j c = search needs
 loop-less : tie.Need-loop-less Inv-loop μ-loop
 loop-less c = search needs
 
+-- the entry, from behind the test of the sender
+abbrev start : tie.After-is-member Inv-loop μ-loop → tie.Start Inv-loop μ-loop
+start c = c .before .before .before .before .before .before
+
+-- what the test says
+is-odd : (c : tie.After-is-member Inv-loop μ-loop) →
+    let a = start c .args in
+    oddTo 13 (a .faulty) (a .lists .now) (c .before .before .loop .j) ≡ c .is-member .result
+is-odd c =
+    sym (c .before .before .before .odd-boxes .ensures (c .before .before .loop .j)) ∙ sym (c .is-member .ensures)
+
 loop-again : tie.Need-loop-again Inv-loop μ-loop
 loop-again c =
-    let a = c .before .before .before .before .before .before .before .args in
-    let p = c .before .before .before .before .before .before .before .pre in
+    let a = start (c .before) .args in
     let so-far = c .before .before .before .loop in
-    let is-odd = sym (c .before .before .before .before .odd-boxes .ensures (so-far .j)) ∙ sym (c .before .is-member .ensures) in
+    let below = c .before .before .loop-test .taken in
     ⊎-elim
     (λ w.
     rw (w .6) (
       search needs,
       search needs,
-      senders-turn _ (c .before .before .loop-test .taken) (so-far .inv .2) (w .3 .ensures),
-      plain-stays (a .n) (a .faulty) (a .lists .now) (a .said .now) (so-far .j) _ _ _ (is-odd ∙ w .0 .taken) (w .3 .ensures) (so-far .inv .3),
+      senders-turn _ below (so-far .inv .2) (w .3 .ensures),
+      plain-stays (a .n) (a .faulty) (a .lists .now) (a .said .now) (so-far .j) _ _ _
+          (is-odd (c .before) ∙ w .0 .taken) (w .3 .ensures) (so-far .inv .3),
     ))
     (λ w.
     rw (w .1) (
       search needs,
       search needs,
-      plain-turn (a .n) (a .faulty) (a .lists .now) (a .said .now) (a .base) (a .table .now) (a .i) (omega arith) (so-far .j)
-          (so-far .heard) (c .before .before .loop-test .taken) (is-odd ∙ w .0 .left) (so-far .inv .3) (so-far .inv .2),
+      plain-turn (a .n) (a .faulty) (a .lists .now) (a .said .now) (a .base) (a .table .now) (a .i) (omega arith)
+          (so-far .j) (so-far .heard) below (is-odd (c .before) ∙ w .0 .left) (so-far .inv .3) (so-far .inv .2),
       so-far .inv .3,
     ))
     (c .if1 .came)

@@ -1,5 +1,5 @@
--- `gradecast::hear_plain` meets its contract: after j turns what the senders below j say is put down. What is left of n
--- falls. Assumes nothing.
+-- `gradecast::hear_plain` meets its contract: after j turns what the senders below j say is put down. What is left of
+-- n falls. Assumes nothing.
 use mathlib.Core.Path.{_≡_}
 use Prim.Native.Nat.{_-_, _≤_}
 use native.Mathlib.Omega.{arith}
@@ -31,7 +31,8 @@ loop-less c = search needs
 loop-again : tie.Need-loop-again Inv-loop μ-loop
 loop-again c =
     let so-far = c .before .before .before .before .before .loop in
-    (search needs, search needs, senders-turn _ (omega arith) (so-far .inv .2) (c .before .before .hear-plain-from .ensures))
+    let put = c .before .before .hear-plain-from in
+    (search needs, search needs, senders-turn _ (omega arith) (so-far .inv .2) (put .ensures))
 
 same-length : tie.Need-same-length Inv-loop μ-loop
 same-length c = search needs

@@ -1,12 +1,12 @@
--- `gradecast::hear_plain_from` meets its contract: after k turns what box j says about the leaders below k is put down, and
--- the other senders' rows stand as they did. What is left of n falls. Assumes nothing.
+-- `gradecast::hear_plain_from` meets its contract: after k turns what box j says about the leaders below k is put
+-- down, and the other senders' rows stand as they did. What is left of n falls. Assumes nothing.
 use mathlib.Core.Path.{_≡_, refl, _∙_}
 use Prim.Native.Nat.{_+_, _*_, _-_, _≤_, _<_}
 use native.Mathlib.Omega.{arith}
 use lib.ListN.{length}
 use Rattle.gradecast.specs.Inside.{FromSender, saidBy}
 use Rattle.gradecast.proofs.Columns.{sender-none, sender-turn, sender-whole}
-use Rattle.gradecast.proofs.Cells.{part-fits}
+use Rattle.gradecast.proofs.Cells.{place-fits}
 use borrow.Author.Needs.{needs}
 use Rattle.gradecast.proofs.hear_plain_from.Statement.{statement}
 use Rattle.gradecast.proofs.hear_plain_from.Tie as tie
@@ -21,13 +21,14 @@ abbrev μ-loop : tie.MeasureT-loop
 loop-holds : tie.Need-loop-holds Inv-loop μ-loop
 loop-holds c = (search needs, search needs, sender-none _)
 
--- both places are among the 169
+-- the cell that is read and the cell that is put are among the 169
 within : (c : tie.In-loop Inv-loop μ-loop) →
     let a = c .before .before .args in
     (a .j * a .n + c .before .loop .k < 169) × (c .before .loop .k * a .n + a .j < 169)
 within c =
     let p = c .before .before .pre in
-    (omega (arith, part-fits (p .0) (p .1)), omega (arith, part-fits (p .0) (c .loop-test .taken)))
+    let is-leader = c .loop-test .taken in
+    (place-fits (p .0) (p .1) is-leader, place-fits (p .0) is-leader (p .1))
 
 mul-heard : tie.Need-mul-heard Inv-loop μ-loop
 mul-heard c = omega (arith, within c .0)
@@ -39,7 +40,7 @@ mul-heard-2 : tie.Need-mul-heard-2 Inv-loop μ-loop
 mul-heard-2 c = omega (arith, within c .0)
 
 element-copy-out-heard : tie.Need-element-copy-out-heard Inv-loop μ-loop
-element-copy-out-heard c = omega (arith, within c .0)
+element-copy-out-heard c = within c .0
 
 mul-heard-3 : tie.Need-mul-heard-3 Inv-loop μ-loop
 mul-heard-3 c = omega (arith, within (c .before) .1)
@@ -51,7 +52,8 @@ mul-heard-4 : tie.Need-mul-heard-4 Inv-loop μ-loop
 mul-heard-4 c = omega (arith, within (c .before) .1)
 
 slice-write-heard : tie.Need-slice-write-heard Inv-loop μ-loop
-slice-write-heard c = omega (arith, within (c .before) .1, c .before .before .loop .inv .1, c .before .before .before .pre .2)
+slice-write-heard c =
+    omega (arith, within (c .before) .1, c .before .before .loop .inv .1, c .before .before .before .pre .2)
 
 add-k : tie.Need-add-k Inv-loop μ-loop
 add-k c = search needs
@@ -65,7 +67,8 @@ loop-again c =
     let so-far = c .before .before .loop in (
       search needs,
       search needs,
-      sender-turn _ (so-far .k) (so-far .heard) (p .0) (omega arith) (p .1) (so-far .inv .1 ∙ p .2) (so-far .inv .2) refl,
+      sender-turn _ (so-far .k) (so-far .heard) (p .0) (omega arith) (p .1) (so-far .inv .1 ∙ p .2) (so-far .inv .2)
+          refl,
     )
 
 same-length : tie.Need-same-length Inv-loop μ-loop

@@ -1,5 +1,5 @@
--- `gradecast::odd_boxes` meets its contract: after i turns the set has the faulty boxes and those on the first i lists.
--- What is left of the 13 lists falls. Assumes nothing.
+-- `gradecast::odd_boxes` meets its contract: after i turns the set has the faulty boxes and those on the first i
+-- lists. What is left of the 13 lists falls. Assumes nothing.
 use mathlib.Core.Path.{_≡_, ap, _∙_}
 use Prim.Native.Nat.{ℕ, _-_, _≤_}
 use native.Mathlib.Omega.{arith}

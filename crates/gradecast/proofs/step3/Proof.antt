@@ -1,5 +1,5 @@
--- `gradecast::step3` meets its contract: after i turns the votes of the boxes below i are put, and what every box hears alike
--- is there, as it was put down before the first. What is left of n falls. Assumes nothing.
+-- `gradecast::step3` meets its contract: after i turns the votes of the boxes below i are put, and what every box
+-- hears alike is there, as it was put down before the first. What is left of n falls. Assumes nothing.
 use mathlib.Core.Path.{_≡_, ap, _∙_}
 use mathlib.Core.List.{List}
 use Prim.Native.Nat.{ℕ, _*_, _-_, _≤_}
@@ -57,13 +57,14 @@ loop-less c = search needs
 
 loop-again : tie.Need-loop-again Inv-loop μ-loop
 loop-again c =
-    let so-far = c .before .before .before .before .before .before .before .before .loop .inv in
-    let put = c .before .before .before .before .step3-box in (
+    let box = c .before .before .before .before in
+    let so-far = box .before .before .before .before .loop .inv in
+    let put = box .step3-box .ensures in (
       search needs,
       search needs,
       search needs,
-      put .ensures .1,
-      λ rows e. box-turn _ _ _ (so-far .4 rows e) (put .ensures .0 rows e),
+      put .1,
+      λ rows e. box-turn _ _ _ (so-far .4 rows e) (put .0 rows e),
     )
 
 same-length : tie.Need-same-length Inv-loop μ-loop

@@ -1,9 +1,8 @@
--- `gradecast::step3_box` meets its contract: a faulty box's cells are 0 as they stand; a sound box votes over the columns of
--- step 2 in the document, and the votes are its Y. What every box hears alike stays for the next box. Assumes nothing.
-use mathlib.Core.Path.{_≡_, sym, _∙_}
-use mathlib.Core.Bool.{false}
+-- `gradecast::step3_box` meets its contract: a faulty box's cells are 0 as they stand; a sound box votes over the
+-- columns of step 2 in the document, and the votes are its Y. What every box hears alike stays for the next box.
+-- Assumes nothing.
+use mathlib.Core.Path.{sym, _∙_}
 use native.Mathlib.Omega.{arith}
-use Rattle.counting.specs.Sets.{member}
 use Rattle.sizes.proofs.Laws.{square-le}
 use Rattle.gradecast.proofs.Cells.{put-nothing, put-same}
 use Rattle.gradecast.proofs.Columns.{votes-heard}

@@ -1,5 +1,5 @@
--- `gradecast::step4` meets its contract: after i turns the grades of the boxes below i are put, and what every box hears
--- alike is there, as it was put down before the first. What is left of n falls. Assumes nothing.
+-- `gradecast::step4` meets its contract: after i turns the grades of the boxes below i are put, and what every box
+-- hears alike is there, as it was put down before the first. What is left of n falls. Assumes nothing.
 use mathlib.Core.Path.{_≡_, ap, _∙_}
 use mathlib.Core.List.{List}
 use Prim.Native.Nat.{ℕ, _*_, _-_, _≤_}
@@ -60,8 +60,9 @@ loop-less c = search needs
 
 loop-again : tie.Need-loop-again Inv-loop μ-loop
 loop-again c =
-    let so-far = c .before .before .before .before .before .before .before .before .before .before .before .loop .inv in
-    let put = c .before .before .before .before .before .before .step4-box .ensures in (
+    let box = c .before .before .before .before .before .before in
+    let so-far = box .before .before .before .before .before .loop .inv in
+    let put = box .step4-box .ensures in (
       search needs,
       search needs,
       search needs,

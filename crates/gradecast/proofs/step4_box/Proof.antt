@@ -1,6 +1,6 @@
--- `gradecast::step4_box` meets its contract: a faulty box's cells are 0 as they stand; a sound box grades over the columns of
--- step 3 in the document, and the grades are those of step 4. What every box hears alike stays for the next box. Assumes
--- nothing.
+-- `gradecast::step4_box` meets its contract: a faulty box's cells are 0 as they stand; a sound box grades over the
+-- columns of step 3 in the document, and the grades are those of step 4. What every box hears alike stays for the next
+-- box. Assumes nothing.
 use mathlib.Core.Path.{sym, _∙_}
 use native.Mathlib.Omega.{arith}
 use Rattle.sizes.proofs.Laws.{square-le, cube-le}
