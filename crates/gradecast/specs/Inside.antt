@@ -52,7 +52,7 @@ oddTo m faulty lists j = member faulty j || any m (λ i. member (getD lists i 0)
 abbrev pub OddSet : ℕ → ℕ → List ℕ → ℕ → Type 0
 OddSet m faulty lists odd = (j : ℕ) → member odd j ≡ oddTo m faulty lists j
 
--- what every sender says that is not faulty and on none of the 13 lists is there: every box hears the same from it
+-- from every sender that is neither faulty nor on one of the 13 lists, what it says is there: every box hears just that
 abbrev pub PlainHeard : ℕ → ℕ → List ℕ → List ℕ → List ℕ → Type 0
 PlainHeard n faulty lists said heard =
     (k j : ℕ) → k < n → j < n → oddTo 13 faulty lists j ≡ false → getD heard (k * n + j) 0 ≡ saidBy n said k j
