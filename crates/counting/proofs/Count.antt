@@ -4,7 +4,7 @@ use mathlib.Core.Path.{_≡_, refl, sym, ap, ap₂, _∙_, subst}
 use mathlib.Core.Bool.{Bool, true, false, cond, not, _&&_, _||_}
 use mathlib.Core.Logic.{_⊎_, ⊎-elim}
 use mathlib.Core.Logic._⊎_.{inl, inr}
-use Prim.Native.Nat.{ℕ, zero, suc, _+_, _*_, _/_, _%_, _≤_, _<_}
+use Prim.Native.Nat.{ℕ, zero, suc, _+_, _-_, _*_, _/_, _%_, _≤_, _<_}
 use native.Mathlib.Nat.{le-refl, not-suc-le-zero, add-zero, mul-zero, mul-add, mul-comm, mul-suc, add-le-add, add-suc, add-assoc, zero-mul, suc-mul}
 use native.Mathlib.Decide.{ℕ-discrete}
 use native.Mathlib.Numerals.{add-one}
@@ -260,6 +260,16 @@ pub count-add : (a b : ℕ) (p : ℕ → Bool) → count (a + b) p ≡ count a p
 unfolding count
 count-add a zero p = rw add-zero (sym (add-zero (count a p)))
 count-add a (suc b) p = rw add-suc (ap (λ (m : ℕ). m + cond (p (a + b)) 1 0) (count-add a b p) ∙ add-assoc (count a p) _ _)
+
+-- a test that passes in more places than come behind the first a passes in one of those
+pub count-first : (a n : ℕ) (p : ℕ → Bool) → a ≤ n → n - a < count n p → Some a p
+count-first a n p l h = count-some a p (omega (arith, parts, count-le (n - a) (λ k. p (a + k))))
+  where
+    whole : n ≡ a + (n - a)
+    whole = omega arith
+
+    parts : count n p ≡ count a p + count (n - a) (λ k. p (a + k))
+    parts = ap (λ (m : ℕ). count m p) whole ∙ count-add a (n - a) p
 
 -- a count over m rows of n places is the sum of the rows' counts
 pub count-rows : (m n : ℕ) (p : ℕ → ℕ → Bool) → count (m * n) (λ q. p (q / n) (q % n)) ≡ sum m (λ i. count n (p i))

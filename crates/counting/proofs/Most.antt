@@ -6,7 +6,7 @@ use mathlib.Core.Bool.{Bool, true, false, cond, _&&_}
 use mathlib.Core.List.{List}
 use mathlib.Core.Logic.{_⊎_, ⊎-elim}
 use mathlib.Core.Logic._⊎_.{inl, inr}
-use Prim.Native.Nat.{ℕ, zero, suc, _+_, _≤_, _<_}
+use Prim.Native.Nat.{ℕ, zero, suc, _+_, _-_, _≤_, _<_}
 use native.Mathlib.Nat.{le-refl, le-trans, not-suc-le-zero, le-antisymm}
 use native.Mathlib.Decide.{ℕ-discrete}
 use native.Mathlib.Numerals.{add-one}
@@ -16,7 +16,7 @@ use lib.ListN.{length, getD}
 use borrow.Author.Tests.{ltb-true, ltb-false, eqb-true, eq-eqb, ne-eqb, lt-ltb, le-ltb}
 use Rattle.counting.specs.Most.{places, support, before, best, most}
 use Rattle.counting.proofs.Bools.{either, never, or-cases, or-false-left, or-false-right, and-left, and-right, and-false-right, both, not-both, or-none, or-true-left, cond-false}
-use Rattle.counting.proofs.Count.{Some, count-some, some-count, at-or-below}
+use Rattle.counting.proofs.Count.{Some, count-some, some-count, count-first, at-or-below}
 
 -- 0 has no support, and any other number its places
 pub support-zero : (xs : List ℕ) → support xs 0 ≡ 0
@@ -185,6 +185,35 @@ most-unique xs w m z s =
     le-antisymm
     (m .lowest (most xs) (supported xs (most xs) (omega arith) .0) (sym same))
     (most-is xs .lowest w z same)
+
+-- a number with more places than come behind the first k stands among those
+pub support-first : (xs : List ℕ) (k v : ℕ) → k ≤ length xs → length xs - k < support xs v →
+    record { at : ℕ; below : at < k; here : getD xs at 0 ≡ v }
+unfolding places
+support-first xs k v l h =
+    let same = support-places xs v (supported xs v (omega arith) .0) in
+    let s = count-first k (length xs) (λ j. eqb (getD xs j 0) v) l (omega (arith, same)) in
+    record { at = s .at; below = s .below; here = eqb-true (getD xs (s .at) 0) v (s .passes) }
+
+-- the best of the first k is the best of all where fewer places are left than it has
+pub best-early : (xs : List ℕ) (k : ℕ) → k ≤ length xs → length xs - k < support xs (best xs k) → best xs k ≡ most xs
+best-early xs k l h =
+    most-unique xs (best xs k)
+    (record { greatest = λ v. early v .greatest; lowest = λ v z e. early v .lowest (sym e) })
+    (supported xs (best xs k) (omega arith) .0)
+    (omega arith)
+  where
+    early : (v : ℕ) → Holds xs (best xs k) v
+    early v =
+        ⊎-elim
+        (λ t.
+        let g = ltb-true (support xs v) (support xs (best xs k)) t in
+        record { greatest = omega arith; lowest = λ e. absurd (omega arith) })
+        (λ f.
+        let g = ltb-false (support xs v) (support xs (best xs k)) f in
+        let s = support-first xs k v l (omega arith) in
+        subst (λ (m : ℕ). Holds xs (best xs k) m) (s .here) (best-holds xs k (s .at) (s .below)))
+        (either (ltb (support xs v) (support xs (best xs k))))
 
 -- nothing stands before itself
 pub before-self : (xs : List ℕ) (a : ℕ) → before xs a a ≡ false

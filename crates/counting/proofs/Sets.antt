@@ -1,12 +1,15 @@
--- Sets of boxes in one number: the members of a set that was built from a test, and of a set within a bound.
+-- Sets of boxes in one number: the members of a set that was built from a test, of a set within a bound, and of two
+-- sets together.
 -- Assumes nothing.
 use mathlib.Core.Path.{_≡_, refl, sym, ap, _∙_, subst}
-use mathlib.Core.Bool.{Bool, true, false, cond}
+use mathlib.Core.Bool.{Bool, true, false, cond, _||_}
 use mathlib.Core.Logic.{⊎-elim}
-use Prim.Native.Nat.{ℕ, zero, suc, _+_, _-_, _*_, _/_, _%_, _^_, _≤_, _<_}
+use Prim.Native.Nat.{ℕ, zero, suc, _+_, _-_, _*_, _/_, _%_, _^_, _≤_, _<_, max}
 use native.Mathlib.Nat.{not-suc-le-zero, div-eq-of-lt, lt-of-lt-of-le, add-comm, mul-assoc, zero-mul, one-mul, add-mul-div-right, add-mul-mod-self-right}
 use native.Mathlib.Numerals.{add-one}
 use native.Mathlib.Omega.{arith}
+use lib.Arith.{digits-mod}
+use lib.Bits.{bitOr, or-shr, or-step}
 use lib.Dec.{eqb}
 use lib.Pow.{pow-pos, pow-mono, pow-add, high}
 use Rattle.counting.specs.Count.{sum}
@@ -90,6 +93,22 @@ member-above n s k h l =
 -- the empty set has no member
 pub member-empty : (k : ℕ) → member 0 k ≡ false
 member-empty k = member-above 0 0 k (pow-pos 0) (omega arith)
+
+-- a box is in two sets together where it is in either
+pub member-or : (a b k : ℕ) → member (bitOr a b) k ≡ (member a k || member b k)
+unfolding member
+member-or a b k =
+    ap (λ (m : ℕ). eqb (m % 2) 1) (or-shr a b k ∙ or-step (a / 2 ^ k) (b / 2 ^ k))
+    ∙ low (bitOr (a / 2 ^ k / 2) (b / 2 ^ k / 2)) (a / 2 ^ k % 2) (b / 2 ^ k % 2) (omega arith) (omega arith)
+  where
+    low : (q x y : ℕ) → x < 2 → y < 2 → eqb ((q * 2 + max x y) % 2) 1 ≡ (eqb x 1 || eqb y 1)
+    low q zero zero hx hy = rw (digits-mod q {m = 2} {r = 0} (omega arith)) refl
+    low q zero (suc zero) hx hy = rw (digits-mod q {m = 2} {r = 1} (omega arith)) refl
+    low q (suc zero) zero hx hy = rw (digits-mod q {m = 2} {r = 1} (omega arith)) refl
+    low q (suc zero) (suc zero) hx hy = rw (digits-mod q {m = 2} {r = 1} (omega arith)) refl
+    low q (suc (suc x)) y hx hy = absurd (omega arith)
+    low q zero (suc (suc y)) hx hy = absurd (omega arith)
+    low q (suc zero) (suc (suc y)) hx hy = absurd (omega arith)
 
 -- a loop's turn adds the bit of one more box
 pub setOf-turn : (n : ℕ) (p : ℕ → Bool) {s r : ℕ} → s ≡ setOf n p → r ≡ cond (p n) (2 ^ n) 0 → s + r ≡ setOf (n + 1) p

@@ -24,6 +24,10 @@ part-fits {n} {i} high h = omega (arith, square-le high, row-fits)
     row-fits : i * n + n ≤ n * n
     row-fits = subst (λ (m : ℕ). m ≤ n * n) (suc-mul i n) (mul-le-mul-right n h)
 
+-- and so does every place in it
+pub place-fits : {n i k : ℕ} → n ≤ 13 → i < n → k < n → i * n + k < 169
+place-fits high hi hk = omega (arith, part-fits high hi)
+
 -- behind row i comes the next
 pub row-after : (n i : ℕ) → i * n + n ≡ (i + 1) * n
 row-after n i = sym (ap (λ (m : ℕ). m * n) (add-one i) ∙ suc-mul i n)

@@ -2,7 +2,7 @@
 -- column is a part of its own. That column is the document's: the cell at j * n + k is what box j sends about leader k where j is
 -- sound, and a faulty box's cell is never heard.
 -- Assumes nothing.
-use mathlib.Core.Path.{_≡_, sym, ap, ap₂, _∙_}
+use mathlib.Core.Path.{_≡_, refl, sym, ap, _∙_}
 use mathlib.Core.List.{List}
 use mathlib.Core.Logic.{⊎-elim}
 use mathlib.Core.Bool.{false}
@@ -21,9 +21,8 @@ use Rattle.sizes.proofs.Laws.{Sized}
 use Rattle.tally.proofs.Taken.{vote-row, grade-row, grade-confidence}
 use Rattle.gradecast.specs.Steps.{placeFrom, place2, place3, sends, hears, heard1, heard2, column2, voted, heard3, column3, gradeRow, confidence}
 use Rattle.gradecast.specs.Cast.{ofSound, cells}
-use Rattle.gradecast.specs.Inside.{heardFrom, HeardTo, columnOf, SaidSecond, SaidThird}
+use Rattle.gradecast.specs.Inside.{heardFrom, SendersTo, AllHeard, FromSender, columnOf, SaidSecond, SaidThird}
 use Rattle.gradecast.proofs.Cells.{cells-at, part-fits, part-built}
-use Rattle.gradecast.proofs.Places.{two-digits}
 use Rattle.gradecast.proofs.Sound.{of-sound, sends-sound}
 
 -- two digits in base n are told by their number
@@ -33,36 +32,56 @@ digits-high {n} a b c d hb hd e = sym (digits-div a hb) ∙ ap (λ (m : ℕ). m 
 digits-low : {n : ℕ} (a b c d : ℕ) → b < n → d < n → a * n + b ≡ c * n + d → b ≡ d
 digits-low {n} a b c d hb hd e = sym (digits-mod a hb) ∙ ap (λ (m : ℕ). m % n) e ∙ digits-mod c hd
 
-module _ (base n list faulty : ℕ) (table said : List ℕ) (i : ℕ) where
-  -- one more row is put down
-  pub heard-turn : (j k : ℕ) (heard : List ℕ) {v : ℕ} → n ≤ 13 → k < n → j < n → length heard ≡ 169 →
-      HeardTo base n list faulty table said i (j * n + k) heard → v ≡ heardFrom base n list faulty table said i k j →
-      HeardTo base n list faulty table said i (j * n + (k + 1)) (set heard (k * n + j) v)
-  heard-turn j k heard {v} high hk hj size h e =
-      λ a b ha hb l. ⊎-elim (same a b ha hb) (other a b ha hb) (at-or-below (b * n + a) (j * n + k) (omega arith))
+-- the rows of sender j, put down one by one
+module _ {n j : ℕ} (g : ℕ → ℕ) {first : List ℕ} where
+  pub sender-none : FromSender n j 0 g first first
+  sender-none = record { put = λ k l. absurd (omega arith); stays = λ k other l d. refl }
+
+  pub sender-turn : (k : ℕ) (heard : List ℕ) {v : ℕ} → n ≤ 13 → k < n → j < n → length heard ≡ 169 →
+      FromSender n j k g first heard → v ≡ g k → FromSender n j (k + 1) g first (set heard (k * n + j) v)
+  sender-turn k heard {v} high hk hj size h e =
+      record { put = λ a l. ⊎-elim (at a) (below a) (at-or-below a k (omega arith)); stays = stays }
     where
-      same : (a b : ℕ) → a < n → b < n → b * n + a ≡ j * n + k →
-          getD (set heard (k * n + j) v) (a * n + b) 0 ≡ heardFrom base n list faulty table said i a b
-      same a b ha hb q =
-          ap₂ (λ (x y : ℕ). getD (set heard (k * n + j) v) (x * n + y) 0) (digits-low b a j k ha hk q) (digits-high b a j k ha hk q)
+      at : (a : ℕ) → a ≡ k → getD (set heard (k * n + j) v) (a * n + j) 0 ≡ g a
+      at a q =
+          ap (λ (m : ℕ). getD (set heard (k * n + j) v) (m * n + j) 0) q
           ∙ getD-set-same heard (k * n + j) v 0 (omega (arith, part-fits high hk))
           ∙ e
-          ∙ sym (ap₂ (heardFrom base n list faulty table said i) (digits-low b a j k ha hk q) (digits-high b a j k ha hk q))
+          ∙ ap g (sym q)
 
-      other : (a b : ℕ) → a < n → b < n → b * n + a < j * n + k →
-          getD (set heard (k * n + j) v) (a * n + b) 0 ≡ heardFrom base n list faulty table said i a b
-      other a b ha hb l =
-          getD-set-other heard (k * n + j) (a * n + b) v 0
-          (λ q. absurd (omega (arith, ap₂ (λ (x y : ℕ). x * n + y) (digits-low a b k j hb hj q) (digits-high a b k j hb hj q))))
-          ∙ h a b ha hb l
+      below : (a : ℕ) → a < k → getD (set heard (k * n + j) v) (a * n + j) 0 ≡ g a
+      below a l =
+          getD-set-other heard (k * n + j) (a * n + j) v 0 (λ q. absurd (omega (arith, digits-high a j k j hj hj q)))
+          ∙ h .put a l
 
-  -- a leader's column
-  pub column-heard : (heard : List ℕ) → n ≤ 13 → length heard ≡ 169 → HeardTo base n list faulty table said i (n * n) heard →
-      (k : ℕ) → k < n → columnOf n heard k ≡ build n (heardFrom base n list faulty table said i k)
-  unfolding columnOf
-  column-heard heard high size h k hk =
-      part-built n k (heardFrom base n list faulty table said i k) heard high hk size
-      (λ j hj. h k j hk hj (two-digits hj hk))
+      stays : (a other : ℕ) → other < n → (other ≡ j → ⊥) →
+          getD (set heard (k * n + j) v) (a * n + other) 0 ≡ getD first (a * n + other) 0
+      stays a other l d =
+          getD-set-other heard (k * n + j) (a * n + other) v 0 (λ q. d (digits-low a other k j l hj q))
+          ∙ h .stays a other l d
+
+  pub sender-whole : {m : ℕ} {last : List ℕ} → m ≡ n → FromSender n j m g first last → FromSender n j n g first last
+  sender-whole q p = record { put = λ k l. p .put k (omega arith); stays = p .stays }
+
+-- one more sender's rows are there
+pub senders-turn : {n j : ℕ} (g : ℕ → ℕ → ℕ) {heard last : List ℕ} → j < n → SendersTo n j g heard →
+    FromSender n j n (λ k. g k j) heard last → SendersTo n (j + 1) g last
+senders-turn {n} {j} g {heard} {last} hj h p =
+    λ k b hk l. ⊎-elim (at k b hk) (below k b hk) (at-or-below b j (omega arith))
+  where
+    at : (k b : ℕ) → k < n → b ≡ j → getD last (k * n + b) 0 ≡ g k b
+    at k b hk q = ap (λ (m : ℕ). getD last (k * n + m) 0) q ∙ p .put k hk ∙ ap (g k) (sym q)
+
+    below : (k b : ℕ) → k < n → b < j → getD last (k * n + b) 0 ≡ g k b
+    below k b hk l = p .stays k b (omega arith) (λ q. absurd (omega arith)) ∙ h k b hk l
+
+-- a leader's column
+pub column-heard : (base n list faulty : ℕ) (table said : List ℕ) (i : ℕ) (heard : List ℕ) →
+    n ≤ 13 → length heard ≡ 169 → AllHeard base n list faulty table said i heard →
+    (k : ℕ) → k < n → columnOf n heard k ≡ build n (heardFrom base n list faulty table said i k)
+unfolding columnOf
+column-heard base n list faulty table said i heard high size h k hk =
+    part-built n k (heardFrom base n list faulty table said i k) heard high hk size (λ j hj. h k j hk hj)
 
 -- vote and grade over a leader's column, which the code takes from k * n to k * n + n
 module _ {n k : ℕ} (t : ℕ) (low : 1 ≤ n) (high : n ≤ 13) (few : 3 * t < n) (leader : k < n) (heard : List ℕ) (size : length heard ≡ 169) where
@@ -115,23 +134,33 @@ module _ (n faulty : ℕ) (lists table said : List ℕ) (i k : ℕ) (leader : k 
 
 -- what a sound box makes of the columns that it heard
 module _ (n t faulty : ℕ) (lists table said heard : List ℕ) (i : ℕ) (high : n ≤ 13) (size : length heard ≡ 169) (is-sound : member faulty i ≡ false) (rows : List ℕ) where
-  pub votes-heard : HeardTo (n * n) n (getD lists i 0) faulty table said i (n * n) heard → SaidSecond n faulty lists table said rows →
+  pub votes-heard : AllHeard (n * n) n (getD lists i 0) faulty table said i heard →
+      SaidSecond n faulty lists table said rows →
       (k : ℕ) → k < n → voteOf t (columnOf n heard k) ≡ ofSound faulty (voted n t faulty rows lists table) i k
   unfolding voted
   votes-heard h e k l =
       ap (voteOf t) (column-heard (n * n) n (getD lists i 0) faulty table said i heard high size h k l ∙ column-2 n faulty lists table said i k l rows e)
       ∙ sym (of-sound faulty (voted n t faulty rows lists table) i k is-sound)
 
-  module _ (h : HeardTo (n * n + n * n * n) n (getD lists i 0) faulty table said i (n * n) heard) (e : SaidThird n t faulty lists table said rows) where
-    third : (k : ℕ) → k < n → columnOf n heard k ≡ column3 n t faulty rows lists table i k
-    third k l =
-        column-heard (n * n + n * n * n) n (getD lists i 0) faulty table said i heard high size h k l
-        ∙ column-3 n faulty lists table said i k l t rows e
+  module _
+      (h : AllHeard (n * n + n * n * n) n (getD lists i 0) faulty table said i heard)
+      (e : SaidThird n t faulty lists table said rows)
+    where
+      third : (k : ℕ) → k < n → columnOf n heard k ≡ column3 n t faulty rows lists table i k
+      third k l =
+          column-heard (n * n + n * n * n) n (getD lists i 0) faulty table said i heard high size h k l
+          ∙ column-3 n faulty lists table said i k l t rows e
 
-    pub rows-heard : (k : ℕ) → k < n → gradedRow t (columnOf n heard k) ≡ ofSound faulty (gradeRow n t faulty rows lists table) i k
-    unfolding gradeRow
-    rows-heard k l = ap (gradedRow t) (third k l) ∙ sym (of-sound faulty (gradeRow n t faulty rows lists table) i k is-sound)
+      pub rows-heard : (k : ℕ) → k < n →
+          gradedRow t (columnOf n heard k) ≡ ofSound faulty (gradeRow n t faulty rows lists table) i k
+      unfolding gradeRow
+      rows-heard k l =
+          ap (gradedRow t) (third k l)
+          ∙ sym (of-sound faulty (gradeRow n t faulty rows lists table) i k is-sound)
 
-    pub confidences-heard : (k : ℕ) → k < n → confidenceOf t (columnOf n heard k) ≡ ofSound faulty (confidence n t faulty rows lists table) i k
-    unfolding confidence
-    confidences-heard k l = ap (confidenceOf t) (third k l) ∙ sym (of-sound faulty (confidence n t faulty rows lists table) i k is-sound)
+      pub confidences-heard : (k : ℕ) → k < n →
+          confidenceOf t (columnOf n heard k) ≡ ofSound faulty (confidence n t faulty rows lists table) i k
+      unfolding confidence
+      confidences-heard k l =
+          ap (confidenceOf t) (third k l)
+          ∙ sym (of-sound faulty (confidence n t faulty rows lists table) i k is-sound)

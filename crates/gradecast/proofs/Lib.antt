@@ -7,6 +7,7 @@ pub mod Listed
 pub mod Messages
 pub mod Near
 pub mod Places
+pub mod Plain
 pub mod Properties
 pub mod Replies
 pub mod Sent

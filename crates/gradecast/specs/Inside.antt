@@ -1,8 +1,11 @@
 -- What the private functions say of their parts of the work. No promise of the crate names any of it.
 use Prim.Native.Nat.{ℕ, _+_, _*_, _≤_, _<_}
 use mathlib.Core.Path.{_≡_}
+use mathlib.Core.Bool.{Bool, false, _||_}
 use mathlib.Core.List.{List}
 use lib.ListN.{length, getD, take, drop}
+use Rattle.counting.specs.Count.{any}
+use Rattle.counting.specs.Sets.{member}
 use Rattle.sizes.specs.Sizes.{tableRows}
 use Rattle.gradecast.specs.Steps.{placeFrom, sends, hears, heard1, voted, confidence, gradeRow, messages}
 use Rattle.gradecast.specs.Cast.{ofSound, cellsTo, cells}
@@ -23,11 +26,36 @@ unfoldable pub heardFrom : ℕ → ℕ → ℕ → ℕ → List ℕ → List ℕ
 heardFrom base n list faulty table said i k j =
     hears list j (sends faulty table j (placeFrom base n j i k) (getD said (j * n + k) 0))
 
+-- everything from the first m senders is there: the row from j about leader k, which g gives, at place k * n + j
+abbrev pub SendersTo : ℕ → ℕ → (ℕ → ℕ → ℕ) → List ℕ → Type 0
+SendersTo n m g heard = (k j : ℕ) → k < n → j < m → getD heard (k * n + j) 0 ≡ g k j
+
 module _ (base n list faulty : ℕ) (table said : List ℕ) (i : ℕ) where
-  -- what box i hears, sender by sender, of which the first q are there: from j about leader k at place k * n + j
-  abbrev pub HeardTo : ℕ → List ℕ → Type 0
-  HeardTo q heard =
-      (k j : ℕ) → k < n → j < n → j * n + k < q → getD heard (k * n + j) 0 ≡ heardFrom base n list faulty table said i k j
+  -- all that box i hears is there
+  abbrev pub AllHeard : List ℕ → Type 0
+  AllHeard heard = SendersTo n n (heardFrom base n list faulty table said i) heard
+
+-- of the rows of sender j, which g gives, the first m are put down; the other senders' rows stay
+pub record FromSender (n j m : ℕ) (g : ℕ → ℕ) (heard last : List ℕ) : Type 0 where
+  pub put : (k : ℕ) → k < m → getD last (k * n + j) 0 ≡ g k
+  pub stays : (k other : ℕ) → other < n → (other ≡ j → ⊥) → getD last (k * n + other) 0 ≡ getD heard (k * n + other) 0
+
+-- what sender j says about leader k
+abbrev pub saidBy : ℕ → List ℕ → ℕ → ℕ → ℕ
+saidBy n said k j = getD said (j * n + k) 0
+
+-- is box j faulty, or on one of the first m lists?
+unfoldable pub oddTo : ℕ → ℕ → List ℕ → ℕ → Bool
+oddTo m faulty lists j = member faulty j || any m (λ i. member (getD lists i 0) j)
+
+-- the set of those boxes
+abbrev pub OddSet : ℕ → ℕ → List ℕ → ℕ → Type 0
+OddSet m faulty lists odd = (j : ℕ) → member odd j ≡ oddTo m faulty lists j
+
+-- from every sender that is neither faulty nor on one of the 13 lists, what it says is there: every box hears just that
+abbrev pub PlainHeard : ℕ → ℕ → List ℕ → List ℕ → List ℕ → Type 0
+PlainHeard n faulty lists said heard =
+    (k j : ℕ) → k < n → j < n → oddTo 13 faulty lists j ≡ false → getD heard (k * n + j) 0 ≡ saidBy n said k j
 
 -- where the cells before box i's are there, the first m of its own, which g gives, are put behind them
 abbrev pub PutTo : ℕ → ℕ → ℕ → (ℕ → ℕ) → List ℕ → List ℕ → Type 0

@@ -12,8 +12,14 @@ ghost use Rattle.gradecast.specs.Cast.{ofSound, cells, castOf, castRefus
 ghost use Rattle.gradecast.specs.Inside.{
   Ready,
   Among,
+  heardFrom,
   columnOf,
-  HeardTo,
+  SendersTo,
+  AllHeard,
+  FromSender,
+  saidBy,
+  OddSet,
+  PlainHeard,
   PutTo,
   PutVotes,
   AllVotes,
@@ -98,6 +104,45 @@ fn step1(n: usize, faulty: u16, rows: &[u64; 13], lists: &[u16; 13], table: &[u6
     }
 }
 
+// The boxes that are faulty or on some list. From any other box every box hears what it says.
+fn odd_boxes(faulty: u16, lists: &[u16; 13]) -> u16
+    ensures { λ r. ⌜ OddSet 13 faulty (now (lists .entry)) r ⌝ }
+{
+    let mut odd = faulty;
+    let mut i: usize = 0;
+    while i < 13 {
+        odd = odd | lists[i];
+        i += 1;
+    }
+    odd
+}
+
+// What box j says about every leader, put down as it is.
+fn hear_plain_from(n: usize, said: &[u64; 169], j: usize, heard: &mut [u64])
+    requires { ⌜ (n ≤ 13) × (j < n) × (length (now heard) ≡ 169) ⌝ }
+    ensures { λ r. ⌜ FromSender n j n (λ k. saidBy n (now (said .entry)) k j)
+        (now (heard .entry)) (now (heard .exit)) ⌝ }
+{
+    let mut k: usize = 0;
+    while k < n {
+        heard[k * n + j] = said[j * n + k];
+        k += 1;
+    }
+}
+
+// What all boxes say about all leaders, a column for each leader. It is put down once for all boxes: from most senders
+// they all hear this.
+fn hear_plain(n: usize, said: &[u64; 169], heard: &mut [u64])
+    requires { ⌜ (n ≤ 13) × (length (now heard) ≡ 169) ⌝ }
+    ensures { λ r. ⌜ SendersTo n n (saidBy n (now (said .entry))) (now (heard .exit)) ⌝ }
+{
+    let mut j: usize = 0;
+    while j < n {
+        hear_plain_from(n, said, j, heard);
+        j += 1;
+    }
+}
+
 // What box i with this list hears from box j about every leader, where sound boxes send said and the table's rows begin at base.
 // Whether j is listed or faulty does not change from leader to leader, so the leaders are gone through inside.
 fn hear_from(
@@ -111,8 +156,10 @@ fn hear_from(
     j: usize,
     heard: &mut [u64],
 )
-    requires { ⌜ Ready n (now table) × Among n i j × (base + n * n * n ≤ tableRows n) × (length (now heard) ≡ 169) × HeardTo base n list faulty (now table) (now said) i (j * n) (now heard) ⌝ }
-    ensures { λ r. ⌜ HeardTo base n list faulty (now (table .entry)) (now (said .entry)) i (j * n + n) (now (heard .exit)) ⌝ }
+    requires { ⌜ Ready n (now table) × Among n i j × (base + n * n * n ≤ tableRows n) × (length (now heard) ≡ 169) ⌝ }
+    ensures { λ r. ⌜ FromSender n j n
+        (λ k. heardFrom base n list faulty (now (table .entry)) (now (said .entry)) i k j)
+        (now (heard .entry)) (now (heard .exit)) ⌝ }
 {
     let mut k: usize = 0;
     while k < n {
@@ -122,23 +169,30 @@ fn hear_from(
     }
 }
 
-// What box i with this list hears from all boxes about all leaders, a column for each leader.
+// What box i hears from all boxes about all leaders, a column for each leader. What the senders say that are neither
+// faulty nor listed is there already, and stays for the next box; only the other senders are gone through.
 fn hear_all(
     base: usize,
     n: usize,
-    list: u16,
+    lists: &[u16; 13],
     faulty: u16,
     table: &[u64],
     said: &[u64; 169],
     i: usize,
     heard: &mut [u64],
 )
-    requires { ⌜ Ready n (now table) × (i < n) × (base + n * n * n ≤ tableRows n) × (length (now heard) ≡ 169) ⌝ }
-    ensures { λ r. ⌜ HeardTo base n list faulty (now (table .entry)) (now (said .entry)) i (n * n) (now (heard .exit)) ⌝ }
+    requires { ⌜ Ready n (now table) × (i < n) × (base + n * n * n ≤ tableRows n) × (length (now heard) ≡ 169) ×
+        PlainHeard n faulty (now lists) (now said) (now heard) ⌝ }
+    ensures { λ r. ⌜ AllHeard base n (getD (now (lists .entry)) i 0) faulty (now (table .entry)) (now (said .entry)) i
+        (now (heard .exit)) ⌝ }
+    ensures { λ r. ⌜ PlainHeard n faulty (now (lists .entry)) (now (said .entry)) (now (heard .exit)) ⌝ }
 {
+    let odd = odd_boxes(faulty, lists);
     let mut j: usize = 0;
     while j < n {
-        hear_from(base, n, list, faulty, table, said, i, j, heard);
+        if sizes::is_member(odd, j) {
+            hear_from(base, n, lists[i], faulty, table, said, i, j, heard);
+        }
         j += 1;
     }
 }
@@ -169,13 +223,15 @@ fn step3_box(
     heard: &mut [u64],
     out: &mut [u64],
 )
-    requires { ⌜ Ready n (now table) × (3 * t < n) × (i < n) × (length (now heard) ≡ 169) × (length (now out) ≡ 169) ⌝ }
+    requires { ⌜ Ready n (now table) × (3 * t < n) × (i < n) × (length (now heard) ≡ 169) × (length (now out) ≡ 169) ×
+        PlainHeard n faulty (now lists) (now second) (now heard) ⌝ }
     ensures { λ r. ⌜ PutVotes n t faulty (now (lists .entry)) (now (table .entry)) (now (second .entry)) i (now (out .entry)) (now (out .exit)) ⌝ }
+    ensures { λ r. ⌜ PlainHeard n faulty (now (lists .entry)) (now (second .entry)) (now (heard .exit)) ⌝ }
 {
     if sizes::is_member(faulty, i) {
         return;
     }
-    hear_all(n * n, n, lists[i], faulty, table, second, i, heard);
+    hear_all(n * n, n, lists, faulty, table, second, i, heard);
     put_votes(n, t, heard, i, out);
 }
 
@@ -193,6 +249,7 @@ fn step3(
     requires { ⌜ Ready n (now table) × (3 * t < n) × (length (now heard) ≡ 169) × (now out ≡ replicate 169 0) ⌝ }
     ensures { λ r. ⌜ AllVotes n t faulty (now (lists .entry)) (now (table .entry)) (now (second .entry)) (now (out .exit)) ⌝ }
 {
+    hear_plain(n, second, heard);
     let mut i: usize = 0;
     while i < n {
         step3_box(n, t, faulty, lists, table, second, i, heard, out);
@@ -231,23 +288,16 @@ fn step4_box(
     rows: &mut [u64],
     confidences: &mut [u8],
 )
-    requires { ⌜ Ready n (now table) × (3 * t < n) × (i < n) × (length (now heard) ≡ 169) × (length (now rows) ≡ 169) × (length (now confidences) ≡ 169) ⌝ }
+    requires { ⌜ Ready n (now table) × (3 * t < n) × (i < n) × (length (now heard) ≡ 169) × (length (now rows) ≡ 169) ×
+        (length (now confidences) ≡ 169) × PlainHeard n faulty (now lists) (now third) (now heard) ⌝ }
     ensures { λ r. ⌜ PutRows n t faulty (now (lists .entry)) (now (table .entry)) (now (third .entry)) i (now (rows .entry)) (now (rows .exit)) ⌝ }
     ensures { λ r. ⌜ PutConfidences n t faulty (now (lists .entry)) (now (table .entry)) (now (third .entry)) i (now (confidences .entry)) (now (confidences .exit)) ⌝ }
+    ensures { λ r. ⌜ PlainHeard n faulty (now (lists .entry)) (now (third .entry)) (now (heard .exit)) ⌝ }
 {
     if sizes::is_member(faulty, i) {
         return;
     }
-    hear_all(
-        n * n + n * n * n,
-        n,
-        lists[i],
-        faulty,
-        table,
-        third,
-        i,
-        heard,
-    );
+    hear_all(n * n + n * n * n, n, lists, faulty, table, third, i, heard);
     put_grades(n, t, heard, i, rows, confidences);
 }
 
@@ -266,6 +316,7 @@ fn step4(
     requires { ⌜ Ready n (now table) × (3 * t < n) × (length (now heard) ≡ 169) × (now rows ≡ replicate 169 0) × (now confidences ≡ replicate 169 0) ⌝ }
     ensures { λ r. ⌜ AllGrades n t faulty (now (lists .entry)) (now (table .entry)) (now (third .entry)) (now (rows .exit)) (now (confidences .exit)) ⌝ }
 {
+    hear_plain(n, third, heard);
     let mut i: usize = 0;
     while i < n {
         step4_box(

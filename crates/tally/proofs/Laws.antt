@@ -18,7 +18,8 @@ use Rattle.counting.specs.Most.{places, support, most}
 use Rattle.counting.proofs.Bools.{never, and-left, and-right, not-true, cond-true, cond-false}
 use Rattle.counting.proofs.Build.{length-build, getD-build, built}
 use Rattle.counting.proofs.Count.{any-none, find-cases}
-use Rattle.counting.proofs.Most.{Stands, IsMost, support-places, supported, most-is, most-unique, most-stands, most-zero}
+use Rattle.counting.proofs.Most.{Stands, IsMost, support-places, support-first, supported, most-is, most-unique}
+use Rattle.counting.proofs.Most.{most-stands, most-zero}
 use Rattle.counting.proofs.Places.{places-one, most-majority}
 use Rattle.tally.specs.Tally.{carried, voteOf, supportOf, confidenceAt, confidenceOf, gradedRow, counted, chosenRow}
 use Rattle.tally.proofs.Carried.{carried-enough}
@@ -62,14 +63,15 @@ module _ (t : ℕ) (xs : List ℕ) where
   pub vote-none : ((v : ℕ) → Carried t xs v → ⊥) → voteOf t xs ≡ 0
   vote-none h = ⊎-elim (λ c. absurd (h (voteOf t xs) c)) (λ n. n .0) vote-cases
 
-  -- where no row of the column is carried the vote is 0
-  pub vote-nowhere : any (length xs) (λ k. carried t xs (getD xs k 0)) ≡ false → voteOf t xs ≡ 0
-  unfolding voteOf
-  vote-nowhere h =
-      ⊎-elim
-      (λ f. never (ap (carried t xs) (f .here) ∙ f .passes) (any-none (length xs) (λ k. carried t xs (getD xs k 0)) h (f .at) (f .below)))
-      (λ n. n .0)
-      (find-cases (length xs) (carried t xs) (λ k. getD xs k 0))
+  -- where none of the first t + 1 rows is carried the vote is 0: a carried row is missing from at most t places
+  pub vote-nowhere : 3 * t < length xs → any (t + 1) (λ k. carried t xs (getD xs k 0)) ≡ false → voteOf t xs ≡ 0
+  vote-nowhere h none = ⊎-elim (λ c. first c) (λ n. n .0) vote-cases
+    where
+      first : Carried t xs (voteOf t xs) → voteOf t xs ≡ 0
+      first c =
+          let same = support-places xs (voteOf t xs) (c .not-zero) in
+          let s = support-first xs (t + 1) (voteOf t xs) (omega arith) (omega (arith, same, c .enough)) in
+          never (ap (carried t xs) (s .here) ∙ is-carried (voteOf t xs) c) (any-none (t + 1) _ none (s .at) (s .below))
 
   -- a carried row is the vote
   pub vote-is : 3 * t < length xs → (v : ℕ) → Carried t xs v → voteOf t xs ≡ v

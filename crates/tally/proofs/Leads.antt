@@ -3,13 +3,13 @@
 use mathlib.Core.Path.{_≡_, refl, sym, ap, _∙_}
 use mathlib.Core.Bool.{true, false, cond}
 use mathlib.Core.List.{List}
-use Prim.Native.Nat.{ℕ, _+_, _/_, _<_}
+use Prim.Native.Nat.{ℕ, _+_, _-_, _/_, _≤_, _<_}
 use native.Mathlib.Decide.{ℕ-discrete}
 use native.Mathlib.Omega.{arith}
 use lib.ListN.{length, getD}
 use Rattle.counting.specs.Most.{support, before, best, most}
 use Rattle.counting.proofs.Bools.{cond-false}
-use Rattle.counting.proofs.Most.{best-turn, support-zero, support-places}
+use Rattle.counting.proofs.Most.{best-turn, best-early, support-zero, support-places}
 use Rattle.counting.proofs.Places.{most-majority}
 use Rattle.tally.specs.declared.Lead.{Lead}
 use Rattle.tally.specs.Reply.{leadOf}
@@ -55,3 +55,9 @@ lead-most xs lead e h = go (ℕ-discrete (lead .row) 0)
         e
         ∙ ap (leadOf xs)
         (sym (most-majority xs (lead .row) z (omega (arith, is, support-places xs (lead .row) z))))
+
+-- a best row so far with more places than are left leads for good
+pub lead-early : (xs : List ℕ) (k : ℕ) (lead : Lead) → lead ≡ leadOf xs (best xs k) → k ≤ length xs →
+    length xs - k < lead .support → lead ≡ leadOf xs (most xs)
+unfolding leadOf
+lead-early xs k lead e l h = e ∙ ap (leadOf xs) (best-early xs k l (omega (arith, ap (λ (r : Lead). r .support) e)))

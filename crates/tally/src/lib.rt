@@ -65,13 +65,15 @@ fn is_carried(rows: &[u64], t: u8, v: u64) -> bool
     rows.len() - (t as usize) <= places_of(rows, v)
 }
 
-// The non-zero row that stands at least n − t times, or 0. No second row can, so the first one found is the vote.
+// The non-zero row that stands at least n − t times, or 0. It is missing from at most t places, so it is one of the
+// first t + 1. No second row can stand so often, so the first one found is the vote.
 fn vote_of(rows: &[u64], t: u8) -> u64
     requires { ⌜ 3 * t < length (now rows) ⌝ }
     ensures { λ r. ⌜ r ≡ voteOf t (now (rows .entry)) ⌝ }
 {
+    let last = t as usize;
     let mut i: usize = 0;
-    while i < rows.len() {
+    while i <= last {
         if is_carried(rows, t, rows[i]) {
             return rows[i];
         }
@@ -123,7 +125,8 @@ fn ahead(rows: &[u64], lead: Lead, v: u64) -> Lead
     lead
 }
 
-// The non-zero row found most often, the lowest on a tie, with its support. A row in more than half of the places ends the search.
+// The non-zero row found most often, the lowest on a tie, with its support. A row in more than half of the places ends
+// the search, and so does one with more places than are left: no row that is still to be met has as many.
 fn lead_of(rows: &[u64]) -> Lead
     ensures { λ r. ⌜ r ≡ leadOf (now (rows .entry)) (most (now (rows .entry))) ⌝ }
 {
@@ -135,6 +138,9 @@ fn lead_of(rows: &[u64]) -> Lead
             return lead;
         }
         i += 1;
+        if rows.len() - i < lead.support {
+            return lead;
+        }
     }
     lead
 }

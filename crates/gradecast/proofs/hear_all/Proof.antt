@@ -1,23 +1,42 @@
--- `gradecast::hear_all` meets its contract: after j turns the rows of the senders below j are put down. What is left of n falls. Assumes
--- nothing.
-use mathlib.Core.Path.{_≡_, ap}
-use Prim.Native.Nat.{ℕ, _*_, _-_, _≤_}
+-- `gradecast::hear_all` meets its contract: after j turns all that the box hears from the senders below j is there.
+-- What the senders say that are neither faulty nor listed is there all along, and is what the box hears from them; the
+-- rows of any other sender are put down and leave those as they are. What is left of n falls. Assumes nothing.
+use mathlib.Core.Path.{_≡_, sym, _∙_}
+use mathlib.Core.Logic.{⊎-elim}
+use Prim.Native.Nat.{_-_, _≤_}
 use native.Mathlib.Omega.{arith}
-use lib.ListN.{length}
-use Rattle.gradecast.specs.Inside.{HeardTo}
-use Rattle.gradecast.proofs.Cells.{row-after}
+use lib.ListN.{length, getD}
+use Rattle.gradecast.specs.Inside.{heardFrom, SendersTo, oddTo, PlainHeard}
+use Rattle.gradecast.proofs.Columns.{senders-turn}
+use Rattle.gradecast.proofs.Plain.{plain-turn, plain-stays}
 use borrow.Author.Needs.{needs}
 use Rattle.gradecast.proofs.hear_all.Statement.{statement}
 use Rattle.gradecast.proofs.hear_all.Tie as tie
 
 abbrev Inv-loop : tie.InvT-loop
-Inv-loop base n list faulty table said i heard₀ j₀ heard j = (j ≤ n) × (length heard ≡ length heard₀) × HeardTo base n list faulty table said i (j * n) heard
+Inv-loop base n lists faulty table said i heard₀ odd j₀ heard j =
+    (j ≤ n) ×
+    (length heard ≡ length heard₀) ×
+    SendersTo n j (heardFrom base n (getD lists i 0) faulty table said i) heard ×
+    PlainHeard n faulty lists said heard
 
 abbrev μ-loop : tie.MeasureT-loop
-μ-loop base n list faulty table said i heard₀ j₀ heard j = n - j
+μ-loop base n lists faulty table said i heard₀ odd j₀ heard j = n - j
+
+odd-boxes-requires : tie.Need-odd-boxes-requires Inv-loop μ-loop
+odd-boxes-requires c κs = search needs
 
 loop-holds : tie.Need-loop-holds Inv-loop μ-loop
-loop-holds c = search needs
+loop-holds c = (search needs, search needs, λ k j hk l. absurd (omega arith), c .before .before .before .pre .4)
+
+is-member-requires : tie.Need-is-member-requires Inv-loop μ-loop
+is-member-requires c κs = search needs
+
+mul-hear-from : tie.Need-mul-hear-from Inv-loop μ-loop
+mul-hear-from c = search needs
+
+element-copy-out-hear-from : tie.Need-element-copy-out-hear-from Inv-loop μ-loop
+element-copy-out-hear-from c = search needs
 
 hear-from-requires : tie.Need-hear-from-requires Inv-loop μ-loop
 hear-from-requires c κs = search needs
@@ -28,20 +47,46 @@ add-j c = search needs
 loop-less : tie.Need-loop-less Inv-loop μ-loop
 loop-less c = search needs
 
+-- the entry, from behind the test of the sender
+abbrev start : tie.After-is-member Inv-loop μ-loop → tie.Start Inv-loop μ-loop
+start c = c .before .before .before .before .before .before
+
+-- what the test says
+is-odd : (c : tie.After-is-member Inv-loop μ-loop) →
+    let a = start c .args in
+    oddTo 13 (a .faulty) (a .lists .now) (c .before .before .loop .j) ≡ c .is-member .result
+is-odd c =
+    sym (c .before .before .before .odd-boxes .ensures (c .before .before .loop .j)) ∙ sym (c .is-member .ensures)
+
 loop-again : tie.Need-loop-again Inv-loop μ-loop
-loop-again c = (
-  search needs,
-  search needs,
-  λ k j hk hj l. c .before .before .hear-from .ensures k j hk hj (omega (arith, row-after (c .before .before .before .before .before .before .before .before .args .n) (c .before .before .before .before .before .loop .j))),
-)
+loop-again c =
+    let a = start (c .before) .args in
+    let so-far = c .before .before .before .loop in
+    let below = c .before .before .loop-test .taken in
+    ⊎-elim
+    (λ w.
+    rw (w .6) (
+      search needs,
+      search needs,
+      senders-turn _ below (so-far .inv .2) (w .3 .ensures),
+      plain-stays (a .n) (a .faulty) (a .lists .now) (a .said .now) (so-far .j) _ _ _
+          (is-odd (c .before) ∙ w .0 .taken) (w .3 .ensures) (so-far .inv .3),
+    ))
+    (λ w.
+    rw (w .1) (
+      search needs,
+      search needs,
+      plain-turn (a .n) (a .faulty) (a .lists .now) (a .said .now) (a .base) (a .table .now) (a .i) (omega arith)
+          (so-far .j) (so-far .heard) below (is-odd (c .before) ∙ w .0 .left) (so-far .inv .3) (so-far .inv .2),
+      so-far .inv .3,
+    ))
+    (c .if1 .came)
 
 same-length : tie.Need-same-length Inv-loop μ-loop
 same-length c = search needs
 
 returns : tie.Need-returns Inv-loop μ-loop
-returns c =
-    let whole : c .before .loop .j ≡ c .before .before .before .before .args .n = omega arith in
-    λ k j hk hj l. c .before .loop .inv .2 k j hk hj (omega (arith, ap (λ (m : ℕ). m * c .before .before .before .before .args .n) whole))
+returns c = (λ k j hk hj. c .before .loop .inv .2 k j hk (omega arith), c .before .loop .inv .3)
 
 pub hear-all-spec : {M : Type 1} → statement M
 hear-all-spec =
@@ -49,7 +94,11 @@ hear-all-spec =
     (tie.spec
     Inv-loop
     μ-loop
+    odd-boxes-requires
     loop-holds
+    is-member-requires
+    mul-hear-from
+    element-copy-out-hear-from
     hear-from-requires
     add-j
     loop-less

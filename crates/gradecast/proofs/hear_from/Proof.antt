@@ -1,61 +1,80 @@
--- `gradecast::hear_from` meets its contract: after k turns the rows about the leaders below k are put down, behind those of the senders
--- below j. What is left of n falls. Assumes nothing.
+-- `gradecast::hear_from` meets its contract: after k turns what the box hears from j about the leaders below k is put
+-- down, and the other senders' rows stand as they did. What is left of n falls. Assumes nothing.
 use mathlib.Core.Path.{_≡_, ap, _∙_}
-use Prim.Native.Nat.{ℕ, _+_, _*_, _-_, _≤_}
+use Prim.Native.Nat.{ℕ, _+_, _*_, _-_, _≤_, _<_}
 use native.Mathlib.Omega.{arith}
 use lib.ListN.{length, getD}
 use Rattle.sizes.proofs.Laws.{table-le}
 use Rattle.gradecast.specs.Steps.{hears, sends}
-use Rattle.gradecast.specs.Inside.{heardFrom, HeardTo}
-use Rattle.gradecast.proofs.Columns.{heard-turn}
-use Rattle.gradecast.proofs.Cells.{part-fits}
+use Rattle.gradecast.specs.Inside.{heardFrom, FromSender}
+use Rattle.gradecast.proofs.Columns.{sender-none, sender-turn, sender-whole}
+use Rattle.gradecast.proofs.Cells.{place-fits}
 use borrow.Author.Needs.{needs}
 use Rattle.gradecast.proofs.hear_from.Statement.{statement}
 use Rattle.gradecast.proofs.hear_from.Tie as tie
 
 abbrev Inv-loop : tie.InvT-loop
-Inv-loop base n list faulty table said i j heard₀ k₀ heard k = (k ≤ n) × (length heard ≡ length heard₀) × HeardTo base n list faulty table said i (j * n + k) heard
+Inv-loop base n list faulty table said i j heard₀ k₀ heard k =
+    (k ≤ n) ×
+    (length heard ≡ length heard₀) ×
+    FromSender n j k (λ m. heardFrom base n list faulty table said i m j) heard₀ heard
 
 abbrev μ-loop : tie.MeasureT-loop
 μ-loop base n list faulty table said i j heard₀ k₀ heard k = n - k
 
+-- the entry, from a turn
+abbrev start : tie.In-loop Inv-loop μ-loop → tie.Start Inv-loop μ-loop
+start c = c .before .before .before .before
+
+-- the cell that is read and the cell that is put are among the 169
+within : (c : tie.In-loop Inv-loop μ-loop) →
+    let a = start c .args in
+    (a .j * a .n + c .before .loop .k < 169) × (c .before .loop .k * a .n + a .j < 169)
+within c =
+    let p = start c .pre in
+    let is-leader = c .loop-test .taken in
+    (place-fits (p .0 .high) (p .1 .is-leader) is-leader, place-fits (p .0 .high) is-leader (p .1 .is-leader))
+
 loop-holds : tie.Need-loop-holds Inv-loop μ-loop
-loop-holds c = (search needs, search needs, λ a b ha hb l. c .before .before .pre .4 a b ha hb (omega arith))
+loop-holds c = (search needs, search needs, sender-none _)
 
 place-from-requires : tie.Need-place-from-requires Inv-loop μ-loop
-place-from-requires c κs = (
-  c .before .before .before .before .pre .0 .high,
-  omega (arith, table-le (c .before .before .before .before .pre .0 .high), c .before .before .before .before .pre .2),
-  c .before .before .before .before .pre .1 .is-leader,
-  record { is-box = c .before .before .before .before .pre .1 .is-box; is-leader = c .loop-test .taken },
-)
+place-from-requires c κs =
+    let p = start c .pre in (
+      p .0 .high,
+      omega (arith, table-le (p .0 .high), p .2),
+      p .1 .is-leader,
+      record { is-box = p .1 .is-box; is-leader = c .loop-test .taken },
+    )
 
 mul-hear : tie.Need-mul-hear Inv-loop μ-loop
-mul-hear c = omega (arith, part-fits (c .before .before .before .before .before .pre .0 .high) (c .before .before .before .before .before .pre .1 .is-leader))
+mul-hear c = omega (arith, within (c .before) .0)
 
 add-hear : tie.Need-add-hear Inv-loop μ-loop
-add-hear c = omega (arith, part-fits (c .before .before .before .before .before .pre .0 .high) (c .before .before .before .before .before .pre .1 .is-leader))
+add-hear c = omega (arith, within (c .before) .0)
 
 mul-hear-2 : tie.Need-mul-hear-2 Inv-loop μ-loop
-mul-hear-2 c = omega (arith, part-fits (c .before .before .before .before .before .pre .0 .high) (c .before .before .before .before .before .pre .1 .is-leader))
+mul-hear-2 c = omega (arith, within (c .before) .0)
 
 element-copy-out-hear : tie.Need-element-copy-out-hear Inv-loop μ-loop
-element-copy-out-hear c = omega (arith, part-fits (c .before .before .before .before .before .pre .0 .high) (c .before .before .before .before .before .pre .1 .is-leader))
+element-copy-out-hear c = within (c .before) .0
 
 hear-requires : tie.Need-hear-requires Inv-loop μ-loop
 hear-requires c κs = search needs
 
 mul-heard : tie.Need-mul-heard Inv-loop μ-loop
-mul-heard c = omega (arith, part-fits {i = c .before .before .before .before .loop .k} (c .before .before .before .before .before .before .before .pre .0 .high) (omega arith), c .before .before .before .before .before .before .before .pre .1)
+mul-heard c = omega (arith, within (c .before .before .before) .1)
 
 add-heard : tie.Need-add-heard Inv-loop μ-loop
-add-heard c = omega (arith, part-fits {i = c .before .before .before .before .loop .k} (c .before .before .before .before .before .before .before .pre .0 .high) (omega arith), c .before .before .before .before .before .before .before .pre .1)
+add-heard c = omega (arith, within (c .before .before .before) .1)
 
 mul-heard-2 : tie.Need-mul-heard-2 Inv-loop μ-loop
-mul-heard-2 c = omega (arith, part-fits {i = c .before .before .before .before .loop .k} (c .before .before .before .before .before .before .before .pre .0 .high) (omega arith), c .before .before .before .before .before .before .before .pre .1)
+mul-heard-2 c = omega (arith, within (c .before .before .before) .1)
 
 slice-write-heard : tie.Need-slice-write-heard Inv-loop μ-loop
-slice-write-heard c = omega (arith, part-fits {i = c .before .before .before .before .loop .k} (c .before .before .before .before .before .before .before .pre .0 .high) (omega arith), c .before .before .before .before .before .before .before .pre .1, c .before .before .before .before .before .before .before .pre .3, c .before .before .before .before .loop .inv .1)
+slice-write-heard c =
+    let turn = c .before .before .before in
+    omega (arith, within turn .1, start turn .pre .3, turn .before .loop .inv .1)
 
 add-k : tie.Need-add-k Inv-loop μ-loop
 add-k c = search needs
@@ -66,22 +85,22 @@ loop-less c = search needs
 loop-again : tie.Need-loop-again Inv-loop μ-loop
 unfolding heardFrom
 loop-again c =
-    let a = c .before .before .before .before .before .before .before .args in
-    let p = c .before .before .before .before .before .before .before .pre in
-    let so-far = c .before .before .before .before .loop in (
+    let a = start (c .before .before .before) .args in
+    let p = start (c .before .before .before) .pre in
+    let so-far = c .before .before .before .before .loop in
+    let own = getD (a .said .now) (a .j * a .n + so-far .k) 0 in
+    let row : ℕ → ℕ = λ m. hears (a .list) (a .j) (sends (a .faulty) (a .table .now) (a .j) m own) in (
       search needs,
       search needs,
-      heard-turn (a .base) (a .n) (a .list) (a .faulty) (a .table .now) (a .said .now) (a .i) (a .j) (so-far .k) (so-far .heard) (p .0 .high) (omega arith) (p .1 .is-leader) (so-far .inv .1 ∙ p .3) (so-far .inv .2)
-          (c .hear .ensures
-          ∙ ap (λ (m : ℕ). hears (a .list) (a .j) (sends (a .faulty) (a .table .now) (a .j) m (getD (a .said .now) (a .j * a .n + so-far .k) 0)))
-          (c .before .before .place-from .ensures .0)),
+      sender-turn _ (so-far .k) (so-far .heard) (p .0 .high) (omega arith) (p .1 .is-leader) (so-far .inv .1 ∙ p .3)
+          (so-far .inv .2) (c .hear .ensures ∙ ap row (c .before .before .place-from .ensures .0)),
     )
 
 same-length : tie.Need-same-length Inv-loop μ-loop
 same-length c = search needs
 
 returns : tie.Need-returns Inv-loop μ-loop
-returns c = λ a b ha hb l. c .before .loop .inv .2 a b ha hb (omega arith)
+returns c = sender-whole _ (omega arith) (c .before .loop .inv .2)
 
 pub hear-from-spec : {M : Type 1} → statement M
 hear-from-spec =

@@ -1,4 +1,5 @@
--- `gradecast::step3` meets its contract: after i turns the votes of the boxes below i are put. What is left of n falls. Assumes nothing.
+-- `gradecast::step3` meets its contract: after i turns the votes of the boxes below i are put, and what every box
+-- hears alike is there, as it was put down before the first. What is left of n falls. Assumes nothing.
 use mathlib.Core.Path.{_≡_, ap, _∙_}
 use mathlib.Core.List.{List}
 use Prim.Native.Nat.{ℕ, _*_, _-_, _≤_}
@@ -6,7 +7,7 @@ use native.Mathlib.Omega.{arith}
 use lib.ListN.{length}
 use Rattle.gradecast.specs.Steps.{voted}
 use Rattle.gradecast.specs.Cast.{ofSound, cellsTo}
-use Rattle.gradecast.specs.Inside.{SaidSecond}
+use Rattle.gradecast.specs.Inside.{PlainHeard, SaidSecond}
 use Rattle.gradecast.proofs.Cells.{cells-none, box-turn, box-whole}
 use borrow.Author.Needs.{needs}
 use Rattle.gradecast.proofs.step3.Statement.{statement}
@@ -15,19 +16,38 @@ use Rattle.gradecast.proofs.step3.Tie as tie
 abbrev Inv-loop : tie.InvT-loop
 Inv-loop n t faulty lists table second heard₀ out₀ i₀ heard out i =
     (i ≤ n) ×
-    (length heard ≡ length heard₀) ×
-    (length out ≡ length out₀) ×
+    (length heard ≡ 169) ×
+    (length out ≡ 169) ×
+    PlainHeard n faulty lists second heard ×
     ((held : List ℕ) → SaidSecond n faulty lists table second held →
     out ≡ cellsTo (i * n) n (ofSound faulty (voted n t faulty held lists table)))
 
 abbrev μ-loop : tie.MeasureT-loop
 μ-loop n t faulty lists table second heard₀ out₀ i₀ heard out i = n - i
 
+-- the entry, from the loop's beginning
+abbrev start : tie.After-slice-known3 Inv-loop μ-loop → tie.Start Inv-loop μ-loop
+start c = c .before .before .before .before .before .before .before
+
+hear-plain-requires : tie.Need-hear-plain-requires Inv-loop μ-loop
+hear-plain-requires c κs = search needs
+
 loop-holds : tie.Need-loop-holds Inv-loop μ-loop
-loop-holds c = (search needs, search needs, search needs, λ rows e. c .before .before .before .pre .3 ∙ cells-none _ _)
+loop-holds c =
+    let p = start c .pre in
+    let plain = c .before .before .hear-plain in (
+      search needs,
+      plain .kept .1 .1 .0 ∙ p .2,
+      ap length (p .3),
+      λ k j hk hj o. plain .ensures k j hk hj,
+      λ rows e. p .3 ∙ cells-none _ _,
+    )
 
 step3-box-requires : tie.Need-step3-box-requires Inv-loop μ-loop
-step3-box-requires c κs = (c .before .before .before .before .before .before .before .pre .0, c .before .before .before .before .before .before .before .pre .1, c .before .before .loop-test .taken, c .before .before .before .loop .inv .1 ∙ c .before .before .before .before .before .before .before .pre .2, c .before .before .before .loop .inv .2 ∙ ap length (c .before .before .before .before .before .before .before .pre .3))
+step3-box-requires c κs =
+    let p = start (c .before .before .before .before) .pre in
+    let so-far = c .before .before .before .loop .inv in
+    (p .0, p .1, c .before .before .loop-test .taken, so-far .1, so-far .2, so-far .3)
 
 add-i : tie.Need-add-i Inv-loop μ-loop
 add-i c = search needs
@@ -36,7 +56,16 @@ loop-less : tie.Need-loop-less Inv-loop μ-loop
 loop-less c = search needs
 
 loop-again : tie.Need-loop-again Inv-loop μ-loop
-loop-again c = (search needs, search needs, search needs, λ rows e. box-turn _ _ _ (c .before .before .before .before .before .before .before .before .loop .inv .3 rows e) (c .before .before .before .before .step3-box .ensures rows e))
+loop-again c =
+    let box = c .before .before .before .before in
+    let so-far = box .before .before .before .before .loop .inv in
+    let put = box .step3-box .ensures in (
+      search needs,
+      search needs,
+      search needs,
+      put .1,
+      λ rows e. box-turn _ _ _ (so-far .4 rows e) (put .0 rows e),
+    )
 
 same-length : tie.Need-same-length Inv-loop μ-loop
 same-length c = search needs
@@ -45,7 +74,7 @@ same-length-2 : tie.Need-same-length-2 Inv-loop μ-loop
 same-length-2 c = search needs
 
 returns : tie.Need-returns Inv-loop μ-loop
-returns c = λ rows e. box-whole _ (omega arith) (c .before .loop .inv .3 rows e)
+returns c = λ rows e. box-whole _ (omega arith) (c .before .loop .inv .4 rows e)
 
 pub step3-spec : {M : Type 1} → statement M
 step3-spec =
@@ -53,6 +82,7 @@ step3-spec =
     (tie.spec
     Inv-loop
     μ-loop
+    hear-plain-requires
     loop-holds
     step3-box-requires
     add-i

@@ -1,33 +1,41 @@
--- `gradecast::step3_box` meets its contract: a faulty box's cells are 0 as they stand; a sound box votes over the columns of step 2 in the
--- document, and the votes are its Y. Assumes nothing.
+-- `gradecast::step3_box` meets its contract: a faulty box's cells are 0 as they stand; a sound box votes over the
+-- columns of step 2 in the document, and the votes are its Y. What every box hears alike stays for the next box.
+-- Assumes nothing.
 use mathlib.Core.Path.{sym, _∙_}
 use native.Mathlib.Omega.{arith}
+use Rattle.sizes.proofs.Laws.{square-le}
 use Rattle.gradecast.proofs.Cells.{put-nothing, put-same}
 use Rattle.gradecast.proofs.Columns.{votes-heard}
 use Rattle.gradecast.proofs.Places.{second-fits}
 use Rattle.gradecast.proofs.Sound.{of-faulty}
-use Rattle.sizes.proofs.Laws.{square-le}
 use borrow.Author.Needs.{needs}
 use Rattle.gradecast.proofs.step3_box.Statement.{statement}
 use Rattle.gradecast.proofs.step3_box.Tie as tie
+
+-- the entry, from behind the test of the box
+abbrev start : tie.After-is-member → tie.Start
+start c = c .before .before .before .before
+
+-- the columns are there, from the end
+abbrev columns : tie.After-slice-known4 → tie.After-hear-all
+columns c = c .before .before .before .before .before .before .before
 
 is-member-requires : tie.Need-is-member-requires
 is-member-requires c κs = search needs
 
 returns : tie.Need-returns
-returns c = λ rows e. put-nothing (c .before .before .before .before .before .pre .0 .high) (c .before .before .before .before .before .pre .2) _ (λ k l. of-faulty _ _ _ _ (sym (c .before .is-member .ensures) ∙ c .if1 .taken))
+returns c =
+    let p = start (c .before) .pre in
+    let is-faulty = sym (c .before .is-member .ensures) ∙ c .if1 .taken in
+    (λ rows e. put-nothing (p .0 .high) (p .2) _ (λ k l. of-faulty _ _ _ _ is-faulty), p .5)
 
 mul-hear-all : tie.Need-mul-hear-all
-mul-hear-all c = omega (arith, square-le (c .before .before .before .before .before .pre .0 .high))
-
-mul-hear-all-2 : tie.Need-mul-hear-all-2
-mul-hear-all-2 c = search needs
-
-element-copy-out-hear-all : tie.Need-element-copy-out-hear-all
-element-copy-out-hear-all c = search needs
+mul-hear-all c = omega (arith, square-le (start (c .before) .pre .0 .high))
 
 hear-all-requires : tie.Need-hear-all-requires
-hear-all-requires c κs = (c .before .before .before .before .before .before .before .pre .0, c .before .before .before .before .before .before .before .pre .2, second-fits _, c .before .before .before .before .before .before .before .pre .3)
+hear-all-requires c κs =
+    let p = start (c .before .before) .pre in
+    (p .0, p .2, second-fits _, p .3, p .5)
 
 put-votes-requires : tie.Need-put-votes-requires
 put-votes-requires c κs = search needs
@@ -40,10 +48,17 @@ same-length-2 c = search needs
 
 returns-2 : tie.Need-returns-2
 returns-2 c =
-    λ rows e.
-    let p = c .before .before .before .before .before .before .before .before .before .before .before .before .before .before .before .pre in
-    let is-sound = sym (c .before .before .before .before .before .before .before .before .before .before .before .is-member .ensures) ∙ c .before .before .before .before .before .before .before .before .before .before .if1 .left in
-    put-same (p .0 .high) (p .2) _ _ (votes-heard _ _ _ _ _ _ _ _ (p .0 .high) (c .before .before .before .before .before .before .before .hear-all .kept .1 .1 .1 .1 .1 .1 .1 .0 ∙ p .3) is-sound rows (c .before .before .before .before .before .before .before .hear-all .ensures) e) (c .before .before .put-votes .ensures)
+    let h = columns c in
+    let box = h .before .before in
+    let p = start (box .before) .pre in
+    let is-sound = sym (box .before .is-member .ensures) ∙ box .if1 .left in
+    let size = h .hear-all .kept .1 .1 .1 .1 .1 .1 .1 .0 ∙ p .3 in (
+      λ rows e.
+          put-same (p .0 .high) (p .2) _ _
+          (votes-heard _ _ _ _ _ _ _ _ (p .0 .high) size is-sound rows (h .hear-all .ensures .0) e)
+          (c .before .before .put-votes .ensures),
+      h .hear-all .ensures .1,
+    )
 
 pub step3-box-spec : {M : Type 1} → statement M
 step3-box-spec =
@@ -52,8 +67,6 @@ step3-box-spec =
     is-member-requires
     returns
     mul-hear-all
-    mul-hear-all-2
-    element-copy-out-hear-all
     hear-all-requires
     put-votes-requires
     same-length

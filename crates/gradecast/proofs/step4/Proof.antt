@@ -1,4 +1,5 @@
--- `gradecast::step4` meets its contract: after i turns the grades of the boxes below i are put. What is left of n falls. Assumes nothing.
+-- `gradecast::step4` meets its contract: after i turns the grades of the boxes below i are put, and what every box
+-- hears alike is there, as it was put down before the first. What is left of n falls. Assumes nothing.
 use mathlib.Core.Path.{_≡_, ap, _∙_}
 use mathlib.Core.List.{List}
 use Prim.Native.Nat.{ℕ, _*_, _-_, _≤_}
@@ -6,7 +7,7 @@ use native.Mathlib.Omega.{arith}
 use lib.ListN.{length}
 use Rattle.gradecast.specs.Steps.{gradeRow, confidence}
 use Rattle.gradecast.specs.Cast.{ofSound, cellsTo}
-use Rattle.gradecast.specs.Inside.{SaidThird}
+use Rattle.gradecast.specs.Inside.{PlainHeard, SaidThird}
 use Rattle.gradecast.proofs.Cells.{cells-none, box-turn, box-whole}
 use borrow.Author.Needs.{needs}
 use Rattle.gradecast.proofs.step4.Statement.{statement}
@@ -15,9 +16,10 @@ use Rattle.gradecast.proofs.step4.Tie as tie
 abbrev Inv-loop : tie.InvT-loop
 Inv-loop n t faulty lists table third heard₀ rows₀ confidences₀ i₀ heard rows confidences i =
     (i ≤ n) ×
-    (length heard ≡ length heard₀) ×
-    (length rows ≡ length rows₀) ×
-    (length confidences ≡ length confidences₀) ×
+    (length heard ≡ 169) ×
+    (length rows ≡ 169) ×
+    (length confidences ≡ 169) ×
+    PlainHeard n faulty lists third heard ×
     ((held : List ℕ) → SaidThird n t faulty lists table third held →
     (rows ≡ cellsTo (i * n) n (ofSound faulty (gradeRow n t faulty held lists table))) ×
     (confidences ≡ cellsTo (i * n) n (ofSound faulty (confidence n t faulty held lists table))))
@@ -25,11 +27,30 @@ Inv-loop n t faulty lists table third heard₀ rows₀ confidences₀ i₀ heard
 abbrev μ-loop : tie.MeasureT-loop
 μ-loop n t faulty lists table third heard₀ rows₀ confidences₀ i₀ heard rows confidences i = n - i
 
+-- the entry, from the loop's beginning
+abbrev start : tie.After-slice-known4 Inv-loop μ-loop → tie.Start Inv-loop μ-loop
+start c = c .before .before .before .before .before .before .before .before
+
+hear-plain-requires : tie.Need-hear-plain-requires Inv-loop μ-loop
+hear-plain-requires c κs = search needs
+
 loop-holds : tie.Need-loop-holds Inv-loop μ-loop
-loop-holds c = (search needs, search needs, search needs, search needs, λ rows e. (c .before .before .before .before .pre .3 ∙ cells-none _ _, c .before .before .before .before .pre .4 ∙ cells-none _ _))
+loop-holds c =
+    let p = start c .pre in
+    let plain = c .before .before .hear-plain in (
+      search needs,
+      plain .kept .1 .1 .0 ∙ p .2,
+      ap length (p .3),
+      ap length (p .4),
+      λ k j hk hj o. plain .ensures k j hk hj,
+      λ rows e. (p .3 ∙ cells-none _ _, p .4 ∙ cells-none _ _),
+    )
 
 step4-box-requires : tie.Need-step4-box-requires Inv-loop μ-loop
-step4-box-requires c κs = (c .before .before .before .before .before .before .before .before .before .pre .0, c .before .before .before .before .before .before .before .before .before .pre .1, c .before .before .before .loop-test .taken, c .before .before .before .before .loop .inv .1 ∙ c .before .before .before .before .before .before .before .before .before .pre .2, c .before .before .before .before .loop .inv .2 ∙ ap length (c .before .before .before .before .before .before .before .before .before .pre .3), c .before .before .before .before .loop .inv .3 ∙ ap length (c .before .before .before .before .before .before .before .before .before .pre .4))
+step4-box-requires c κs =
+    let p = start (c .before .before .before .before .before) .pre in
+    let so-far = c .before .before .before .before .loop .inv in
+    (p .0, p .1, c .before .before .before .loop-test .taken, so-far .1, so-far .2, so-far .3, so-far .4)
 
 add-i : tie.Need-add-i Inv-loop μ-loop
 add-i c = search needs
@@ -38,15 +59,20 @@ loop-less : tie.Need-loop-less Inv-loop μ-loop
 loop-less c = search needs
 
 loop-again : tie.Need-loop-again Inv-loop μ-loop
-loop-again c = (
-  search needs,
-  search needs,
-  search needs,
-  search needs,
-  λ rows e.
-      let so-far = c .before .before .before .before .before .before .before .before .before .before .before .loop .inv .4 rows e in
-      (box-turn _ _ _ (so-far .0) (c .before .before .before .before .before .before .step4-box .ensures .0 rows e), box-turn _ _ _ (so-far .1) (c .before .before .before .before .before .before .step4-box .ensures .1 rows e)),
-)
+loop-again c =
+    let box = c .before .before .before .before .before .before in
+    let so-far = box .before .before .before .before .before .loop .inv in
+    let put = box .step4-box .ensures in (
+      search needs,
+      search needs,
+      search needs,
+      search needs,
+      put .1 .1,
+      λ rows e. (
+        box-turn _ _ _ (so-far .5 rows e .0) (put .0 rows e),
+        box-turn _ _ _ (so-far .5 rows e .1) (put .1 .0 rows e),
+      ),
+    )
 
 same-length : tie.Need-same-length Inv-loop μ-loop
 same-length c = search needs
@@ -60,7 +86,7 @@ same-length-3 c = search needs
 returns : tie.Need-returns Inv-loop μ-loop
 returns c =
     λ rows e.
-    let so-far = c .before .loop .inv .4 rows e in
+    let so-far = c .before .loop .inv .5 rows e in
     (box-whole _ (omega arith) (so-far .0), box-whole _ (omega arith) (so-far .1))
 
 pub step4-spec : {M : Type 1} → statement M
@@ -69,6 +95,7 @@ step4-spec =
     (tie.spec
     Inv-loop
     μ-loop
+    hear-plain-requires
     loop-holds
     step4-box-requires
     add-i

@@ -1,46 +1,52 @@
--- `gradecast::step4_box` meets its contract: a faulty box's cells are 0 as they stand; a sound box grades over the columns of step 3 in the
--- document, and the grades are those of step 4. Assumes nothing.
+-- `gradecast::step4_box` meets its contract: a faulty box's cells are 0 as they stand; a sound box grades over the
+-- columns of step 3 in the document, and the grades are those of step 4. What every box hears alike stays for the next
+-- box. Assumes nothing.
 use mathlib.Core.Path.{sym, _∙_}
 use native.Mathlib.Omega.{arith}
+use Rattle.sizes.proofs.Laws.{square-le, cube-le}
 use Rattle.gradecast.proofs.Cells.{put-nothing, put-same}
 use Rattle.gradecast.proofs.Columns.{rows-heard, confidences-heard}
 use Rattle.gradecast.proofs.Places.{third-fits}
 use Rattle.gradecast.proofs.Sound.{of-faulty}
-use Rattle.sizes.proofs.Laws.{square-le, cube-le}
 use borrow.Author.Needs.{needs}
 use Rattle.gradecast.proofs.step4_box.Statement.{statement}
 use Rattle.gradecast.proofs.step4_box.Tie as tie
+
+-- the entry, from behind the test of the box
+abbrev start : tie.After-is-member → tie.Start
+start c = c .before .before .before .before .before
+
+-- the columns are there, from the end
+abbrev columns : tie.After-slice-known6 → tie.After-hear-all
+columns c = c .before .before .before .before .before .before .before .before .before .before
 
 is-member-requires : tie.Need-is-member-requires
 is-member-requires c κs = search needs
 
 returns : tie.Need-returns
 returns c =
-    let h = sym (c .before .is-member .ensures) ∙ c .if1 .taken in (
-      λ rows e. put-nothing (c .before .before .before .before .before .before .pre .0 .high) (c .before .before .before .before .before .before .pre .2) _ (λ k l. of-faulty _ _ _ _ h),
-      λ rows e. put-nothing (c .before .before .before .before .before .before .pre .0 .high) (c .before .before .before .before .before .before .pre .2) _ (λ k l. of-faulty _ _ _ _ h),
+    let p = start (c .before) .pre in
+    let is-faulty = sym (c .before .is-member .ensures) ∙ c .if1 .taken in (
+      λ rows e. put-nothing (p .0 .high) (p .2) _ (λ k l. of-faulty _ _ _ _ is-faulty),
+      (λ rows e. put-nothing (p .0 .high) (p .2) _ (λ k l. of-faulty _ _ _ _ is-faulty), p .6),
     )
 
 mul-hear-all : tie.Need-mul-hear-all
-mul-hear-all c = omega (arith, square-le (c .before .before .before .before .before .before .pre .0 .high), cube-le (c .before .before .before .before .before .before .pre .0 .high))
+mul-hear-all c = let high = start (c .before) .pre .0 .high in omega (arith, square-le high, cube-le high)
 
 mul-hear-all-2 : tie.Need-mul-hear-all-2
-mul-hear-all-2 c = omega (arith, square-le (c .before .before .before .before .before .before .pre .0 .high), cube-le (c .before .before .before .before .before .before .pre .0 .high))
+mul-hear-all-2 c = let high = start (c .before) .pre .0 .high in omega (arith, square-le high, cube-le high)
 
 mul-hear-all-3 : tie.Need-mul-hear-all-3
-mul-hear-all-3 c = omega (arith, square-le (c .before .before .before .before .before .before .pre .0 .high), cube-le (c .before .before .before .before .before .before .pre .0 .high))
+mul-hear-all-3 c = let high = start (c .before) .pre .0 .high in omega (arith, square-le high, cube-le high)
 
 add-hear-all : tie.Need-add-hear-all
-add-hear-all c = omega (arith, square-le (c .before .before .before .before .before .before .pre .0 .high), cube-le (c .before .before .before .before .before .before .pre .0 .high))
-
-mul-hear-all-4 : tie.Need-mul-hear-all-4
-mul-hear-all-4 c = search needs
-
-element-copy-out-hear-all : tie.Need-element-copy-out-hear-all
-element-copy-out-hear-all c = search needs
+add-hear-all c = let high = start (c .before) .pre .0 .high in omega (arith, square-le high, cube-le high)
 
 hear-all-requires : tie.Need-hear-all-requires
-hear-all-requires c κs = (c .before .before .before .before .before .before .before .before .pre .0, c .before .before .before .before .before .before .before .before .pre .2, third-fits _, c .before .before .before .before .before .before .before .before .pre .3)
+hear-all-requires c κs =
+    let p = start (c .before .before) .pre in
+    (p .0, p .2, third-fits _, p .3, p .6)
 
 put-grades-requires : tie.Need-put-grades-requires
 put-grades-requires c κs = search needs
@@ -56,14 +62,22 @@ same-length-3 c = search needs
 
 returns-2 : tie.Need-returns-2
 returns-2 c =
-    let p = c .before .before .before .before .before .before .before .before .before .before .before .before .before .before .before .before .before .before .before .pre in
-    let is-sound = sym (c .before .before .before .before .before .before .before .before .before .before .before .before .before .before .is-member .ensures) ∙ c .before .before .before .before .before .before .before .before .before .before .before .before .before .if1 .left in
-    let size = c .before .before .before .before .before .before .before .before .before .before .hear-all .kept .1 .1 .1 .1 .1 .1 .1 .0 ∙ p .3 in
-    let heard = c .before .before .before .before .before .before .before .before .before .before .hear-all .ensures in (
+    let h = columns c in
+    let box = h .before .before in
+    let p = start (box .before) .pre in
+    let is-sound = sym (box .before .is-member .ensures) ∙ box .if1 .left in
+    let size = h .hear-all .kept .1 .1 .1 .1 .1 .1 .1 .0 ∙ p .3 in
+    let heard = h .hear-all .ensures .0 in
+    let put = c .before .before .before .before .put-grades .ensures in (
       λ rows e.
-          put-same (p .0 .high) (p .2) _ _ (rows-heard _ _ _ _ _ _ _ _ (p .0 .high) size is-sound rows heard e) (c .before .before .before .before .put-grades .ensures .0),
-      λ rows e.
-          put-same (p .0 .high) (p .2) _ _ (confidences-heard _ _ _ _ _ _ _ _ (p .0 .high) size is-sound rows heard e) (c .before .before .before .before .put-grades .ensures .1),
+          put-same (p .0 .high) (p .2) _ _
+          (rows-heard _ _ _ _ _ _ _ _ (p .0 .high) size is-sound rows heard e) (put .0),
+      (
+        λ rows e.
+            put-same (p .0 .high) (p .2) _ _
+            (confidences-heard _ _ _ _ _ _ _ _ (p .0 .high) size is-sound rows heard e) (put .1),
+        h .hear-all .ensures .1,
+      ),
     )
 
 pub step4-box-spec : {M : Type 1} → statement M
@@ -76,8 +90,6 @@ step4-box-spec =
     mul-hear-all-2
     mul-hear-all-3
     add-hear-all
-    mul-hear-all-4
-    element-copy-out-hear-all
     hear-all-requires
     put-grades-requires
     same-length

@@ -1,10 +1,11 @@
--- `tally::vote_of` meets its contract: none of the first i rows is carried; the first carried row is the vote, since with 3t < n no other is;
--- and where none is carried the vote is 0. What is left of the length falls. Assumes nothing.
+-- `tally::vote_of` meets its contract: none of the first i rows is carried, and i is at most t + 1, which is within the
+-- length since 3t < n. The first carried row is the vote, since no other is; and where none of the first t + 1 rows is
+-- carried no row is, and the vote is 0. What is left of t + 1 falls. Assumes nothing.
 use mathlib.Core.Path.{_≡_, sym, _∙_}
 use mathlib.Core.Bool.{false}
-use Prim.Native.Nat.{_≤_, _-_}
+use Prim.Native.Nat.{_≤_, _+_, _-_}
 use native.Mathlib.Omega.{arith}
-use lib.ListN.{length, getD}
+use lib.ListN.{getD}
 use Rattle.counting.specs.Count.{any}
 use Rattle.counting.proofs.Count.{any-turn}
 use Rattle.tally.specs.Tally.{carried}
@@ -14,10 +15,10 @@ use Rattle.tally.proofs.vote_of.Statement.{statement}
 use Rattle.tally.proofs.vote_of.Tie as tie
 
 abbrev Inv-loop : tie.InvT-loop
-Inv-loop rows t i₀ i = (i ≤ length rows) × (any i (λ k. carried t rows (getD rows k 0)) ≡ false)
+Inv-loop rows t last i₀ i = (i ≤ t + 1) × (any i (λ k. carried t rows (getD rows k 0)) ≡ false)
 
 abbrev μ-loop : tie.MeasureT-loop
-μ-loop rows t i₀ i = length rows - i
+μ-loop rows t last i₀ i = t + 1 - i
 
 loop-holds : tie.Need-loop-holds Inv-loop μ-loop
 unfolding any
@@ -30,7 +31,7 @@ shared-slice-read-is-carried : tie.Need-shared-slice-read-is-carried Inv-loop μ
 shared-slice-read-is-carried c = search needs
 
 is-carried-requires : tie.Need-is-carried-requires Inv-loop μ-loop
-is-carried-requires c κs = omega (arith, c .before .before .before .before .pre)
+is-carried-requires c κs = search needs
 
 mul-result : tie.Need-mul-result Inv-loop μ-loop
 mul-result c = search needs
@@ -39,7 +40,10 @@ shared-slice-read-result : tie.Need-shared-slice-read-result Inv-loop μ-loop
 shared-slice-read-result c = search needs
 
 returns : tie.Need-returns Inv-loop μ-loop
-returns c = sym (vote-is _ _ (c .before .before .before .before .before .before .before .pre) _ (carried-is _ _ _ (sym (c .before .before .is-carried .ensures) ∙ c .before .if1 .taken)))
+returns c =
+    let p = c .before .before .before .before .before .before .before .pre in
+    let passed = sym (c .before .before .is-carried .ensures) ∙ c .before .if1 .taken in
+    sym (vote-is _ _ p _ (carried-is _ _ _ passed))
 
 add-i : tie.Need-add-i Inv-loop μ-loop
 add-i c = search needs
@@ -48,10 +52,14 @@ loop-less : tie.Need-loop-less Inv-loop μ-loop
 loop-less c = search needs
 
 loop-again : tie.Need-loop-again Inv-loop μ-loop
-loop-again c = (search needs, any-turn _ _ (c .before .before .before .before .loop .inv .1) (sym (c .before .is-carried .ensures) ∙ c .if1 .left))
+loop-again c =
+    let so-far = c .before .before .before .before .loop .inv in
+    (search needs, any-turn _ _ (so-far .1) (sym (c .before .is-carried .ensures) ∙ c .if1 .left))
 
 returns-2 : tie.Need-returns-2 Inv-loop μ-loop
-returns-2 c = let whole : c .before .loop .i ≡ length (c .before .before .before .args .rows .now) = omega arith in sym (vote-nowhere _ _ (rw (← whole) (c .before .loop .inv .1)))
+returns-2 c =
+    let whole : c .before .loop .i ≡ c .before .before .before .args .t + 1 = omega arith in
+    sym (vote-nowhere _ _ (c .before .before .before .pre) (rw (← whole) (c .before .loop .inv .1)))
 
 pub vote-of-spec : {M : Type 1} → statement M
 vote-of-spec =
