@@ -1,3 +1,6 @@
 -- What belongs to no one function.
 pub mod Sender
 pub mod Text
+pub mod Heading
+pub mod Table
+pub mod Iterations

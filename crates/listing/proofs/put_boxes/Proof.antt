@@ -39,14 +39,29 @@ loop-less c = search needs
 loop-again : tie.Need-loop-again Inv-loop μ-loop
 unfolding boxLines
 loop-again c =
-    ?
+    let e = c .before .before .put-box .ensures in
+    let d = c .before .before .before .before .before in
+    let a = d .before .before .before .args in
+    let inv = d .loop .inv in
+    let room : c .before .before .put-box .result ≤ length (a .text .now) = omega (arith, e .1, inv .3, d .before .before .before .pre) in
+    let put = put-then (inv .2) (e .0) room in (
+      search needs,
+      put-long put room,
+      subst (Put _ _ _ _) (ap (boxLines (a .s)) (sym (add-one (d .loop .i)))) put,
+      omega (arith, e .1, inv .3),
+    )
 
 same-length : tie.Need-same-length Inv-loop μ-loop
 same-length c = search needs
 
 returns : tie.Need-returns Inv-loop μ-loop
 returns c =
-    ?
+    let inv = c .before .loop .inv in
+    let all : c .before .loop .i ≡ c .before .before .before .before .args .s .n = omega arith in
+    let a = c .before .before .before .before .args in (
+      subst (λ (k : ℕ). Put (a .text .now) (c .before .loop .text) (a .at) (c .before .loop .end) (boxLines (a .s) k)) all (inv .2),
+      omega (arith, inv .3, c .before .before .before .before .pre),
+    )
 
 pub put-boxes-spec : {M : Type 1} → statement M
 put-boxes-spec =
