@@ -4,3 +4,4 @@ pub mod Text
 pub mod Heading
 pub mod Table
 pub mod Iterations
+pub mod Whole
