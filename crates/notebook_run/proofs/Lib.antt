@@ -1,2 +1,0 @@
--- What belongs to no one function.
-pub mod Laws
