@@ -1,4 +1,5 @@
--- `lines::put_line` meets its contract: behind the text there is no room for a line; within it the line is put there. Assumes nothing.
+-- `lines::put_line` meets its contract: behind the text there is no room for a line; within it the line is put
+-- there. Assumes nothing.
 use Prim.Native.Nat.{_-_}
 use native.Mathlib.Omega.{arith}
 use lib.ListN.{length}

@@ -1,5 +1,5 @@
--- `lines::put_numbers` meets its contract: after i turns the first i numbers stand at the place, and `end` is behind them. What is left of the
--- numbers falls. Assumes nothing.
+-- `lines::put_numbers` meets its contract: after i turns the first i numbers stand at the place, and `end` is behind
+-- them. What is left of the numbers falls. Assumes nothing.
 use mathlib.Core.Path.{_≡_, ap, sym, _∙_}
 use Prim.Native.Nat.{ℕ, _+_, _≤_, _-_}
 use native.Mathlib.Omega.{arith}

@@ -1,5 +1,5 @@
--- `lines::put_within` meets its contract: the line is written at the front of what lies from the place on, and its size lies within that.
--- Assumes nothing.
+-- `lines::put_within` meets its contract: the line is written at the front of what lies from the place on, and its
+-- size lies within that. Assumes nothing.
 use Prim.Native.Nat.{ℕ, _+_, _-_, _≤_}
 use mathlib.Core.Path.{_≡_, ap, _∙_}
 use mathlib.Core.List.{List, _++_}
@@ -7,7 +7,8 @@ use native.Mathlib.Omega.{arith}
 use lib.ListN.{length, take, length-drop}
 use Rattle.lines.specs.declared.Written.{Written}
 use Rattle.lines.specs.Line.{lineReply, lineWrites}
-use Rattle.lines.proofs.Put.{line-within, rest-whole, rest-none}
+use Rattle.lines.proofs.Placed.{rest-whole, rest-none}
+use Rattle.lines.proofs.Put.{line-within}
 use borrow.Author.Needs.{needs}
 use Rattle.lines.proofs.put_within.Statement.{statement}
 use Rattle.lines.proofs.put_within.Tie as tie
