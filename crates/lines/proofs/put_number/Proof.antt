@@ -70,8 +70,9 @@ part-copy-end c = search needs
 copy-requires : tie.Need-copy-requires
 copy-requires c κs =
     let s = start-of (c .before .before) in
-    rw (rest-whole (spaced-of s) (s .args .at + 1))
-    (omega (arith, room-of (c .before .before), length-drop (s .args .at + 1) (spaced-of s)))
+    let place = s .args .at + 1 in
+    let rest = ap length (rest-whole (spaced-of s) place) ∙ length-drop place (spaced-of s) in
+    omega (arith, room-of (c .before .before))
 
 add-result : tie.Need-add-result
 add-result c =
