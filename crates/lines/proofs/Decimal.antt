@@ -35,7 +35,13 @@ unfolding decimal tens
 decimal-large zero h = absurd (omega arith)
 decimal-large (suc n) h =
     cond-false _ _ (le-ltb (suc n) 10 h)
-    ∙ ap (λ (ds : List ℕ). ds ++ ((48 + suc n % 10) ∷ [])) (tens-enough n (suc n / 10) (suc n / 10) (omega arith) (le-refl _))
+    ∙ ap (λ (ds : List ℕ). ds ++ ((48 + suc n % 10) ∷ []))
+    (tens-enough n (suc n / 10) (suc n / 10) (omega arith) (le-refl _))
+
+pub decimal-two : (n : ℕ) → 10 ≤ n → n < 100 → decimal n ≡ (48 + n / 10) ∷ (48 + n % 10) ∷ []
+decimal-two n h l =
+    decimal-large n h
+    ∙ ap (λ (ds : List ℕ). ds ++ ((48 + n % 10) ∷ [])) (decimal-small (n / 10) (omega arith))
 
 -- what holds below 10, and of a number where it holds of its tenth, holds of every number
 module _ (P : ℕ → Type 0) (small : (n : ℕ) → n < 10 → P n) (large : (n : ℕ) → 10 ≤ n → P (n / 10) → P n) where
@@ -56,7 +62,9 @@ decimal-longer n h = ap length (decimal-large n h) ∙ length-append (decimal (n
 -- at least one digit
 pub decimal-some : (n : ℕ) → 1 ≤ length (decimal n)
 decimal-some =
-    by-tenths (λ n. 1 ≤ length (decimal n)) (λ n h. rw (decimal-small n h) (le-refl _)) (λ n h p. omega (arith, decimal-longer n h))
+    by-tenths (λ n. 1 ≤ length (decimal n))
+    (λ n h. rw (decimal-small n h) (le-refl _))
+    (λ n h p. omega (arith, decimal-longer n h))
 
 -- a number below 10 to the k has at most k digits
 pub decimal-most : (k n : ℕ) → n < 10 ^ suc k → length (decimal n) ≤ suc k

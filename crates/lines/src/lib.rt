@@ -4,7 +4,7 @@ ghost use mathlib.Core.List.{_++_};
 ghost use Prim.Native.Nat.{_+_, _-_, _≤_};
 ghost use lib.Dec.{ltb};
 ghost use lib.ListN.{length, take, drop};
-ghost use Rattle.lines.specs.Line.{field, fields, placed, tooShort, lineReply, lineWrites};
+ghost use Rattle.lines.specs.Line.{decimal, field, fields, placed, tooShort, lineReply, lineWrites};
 
 // The reply of a line: the refusal's number, or 0 with the number of bytes written.
 pub struct Written {
@@ -45,17 +45,35 @@ fn too_short(word: &[u8], numbers: &[u64], room: usize) -> bool
     numbers_exceed(numbers, left)
 }
 
+// Writes the digits of n at a place of the slice, and gives the place behind them. Most numbers have one digit or two,
+// which are written at once.
+fn put_digits(out: &mut [u8], at: usize, n: u64) -> usize
+    requires { ⌜ at + length (decimal n) ≤ length (now out) ⌝ }
+    ensures { λ r. ⌜ r ≡ at + length (decimal n) ⌝ }
+    ensures { λ r. ⌜ now (out .exit) ≡ placed (now (out .entry)) at (decimal n) ⌝ }
+{
+    if n < 10 {
+        out[at] = 48 + n as u8;
+        return at + 1;
+    }
+    if n < 100 {
+        out[at] = 48 + (n / 10) as u8;
+        out[at + 1] = 48 + (n % 10) as u8;
+        return at + 2;
+    }
+    let mut digits = [0u8; 20];
+    let size = io::decimal(n, &mut digits);
+    at + bytes::copy(&digits[..size], &mut out[at..])
+}
+
 // Writes a space and the digits of n at a place of the slice, and gives the place behind them.
 fn put_number(out: &mut [u8], at: usize, n: u64) -> usize
     requires { ⌜ at + length (field n) ≤ length (now out) ⌝ }
     ensures { λ r. ⌜ r ≡ at + length (field n) ⌝ }
     ensures { λ r. ⌜ now (out .exit) ≡ placed (now (out .entry)) at (field n) ⌝ }
 {
-    let mut digits = [0u8; 20];
-    let size = io::decimal(n, &mut digits);
     out[at] = b' ';
-    let place = at + 1;
-    place + bytes::copy(&digits[..size], &mut out[place..])
+    put_digits(out, at + 1, n)
 }
 
 // Writes the numbers at a place of the slice, each as a space and its digits, and gives the place behind them.
