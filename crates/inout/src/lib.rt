@@ -4,14 +4,23 @@ ghost use Prim.Native.Nat.{_+_, _-_, _≤_, _<_};
 ghost use lib.ListN.{length, take, drop};
 ghost use Rattle.lines.specs.Line.{lineReply, lineWrites};
 
-// Fills a part that lies within the bytes.
+// Fills a part that lies within the bytes: reads until it is full, the input ends or a read fails.
 fn fill_part(bytes: &mut [u8], at: usize, end: usize) -> usize
     requires { ⌜ (at ≤ end) × (end ≤ length (now bytes)) ⌝ }
     ensures { λ r. ⌜ (at ≤ r) × (r ≤ end) ⌝ }
     ensures { λ r. ⌜ take at (now (bytes .exit)) ≡ take at (now (bytes .entry)) ⌝ }
     ensures { λ r. ⌜ drop end (now (bytes .exit)) ≡ drop end (now (bytes .entry)) ⌝ }
 {
-    at + io::read_full(libc::STDIN_FILENO, &mut bytes[at..end])
+    let mut place = at;
+    while place < end {
+        let got = libc::read(libc::STDIN_FILENO, &mut bytes[place..end]);
+        let more = io::count(got, &bytes[place..end]);
+        if more == 0 {
+            return place;
+        }
+        place += more;
+    }
+    place
 }
 
 // Reads until the part of the bytes from a place to an end is full or the input ends, and gives the place behind the last byte

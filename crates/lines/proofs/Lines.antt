@@ -3,7 +3,7 @@
 use mathlib.Core.Path.{_≡_, refl, sym, ap, _∙_}
 use mathlib.Core.Bool.{Bool, true, false}
 use mathlib.Core.List.{List, [], _∷_, _++_}
-use Prim.Native.Nat.{ℕ, zero, suc, _+_, _≤_, _<_}
+use Prim.Native.Nat.{ℕ, zero, suc, _+_, _-_, _*_, _^_, _≤_, _<_}
 use native.Mathlib.Nat.{le-refl}
 use native.Mathlib.Numerals.{add-one}
 use native.Mathlib.Omega.{arith}
@@ -15,6 +15,7 @@ use borrow.Author.Tests.{lt-ltb, le-ltb, ltb-true, ltb-false}
 use Rattle.counting.specs.Count.{sum}
 use Rattle.counting.proofs.Bools.{cond-true, cond-false}
 use Rattle.counting.proofs.Count.{at-or-below}
+use Rattle.lines.proofs.Decimal.{decimal-20}
 use Rattle.lines.specs.Line.{decimal, field, fields, lineOf, tooShort, placed, lineReply, lineWrites}
 
 -- the turn of a loop over the numbers
@@ -37,6 +38,19 @@ fields-more numbers k (suc n) h =
     ap (λ (m : ℕ). length (fields numbers m)) (sym (add-one n)) in
     omega (arith, fields-more numbers k n (omega arith), fields-longer numbers n))
     (at-or-below k (suc n) (omega arith))
+
+-- a number of 64 bits takes at most 21 bytes, the space among them
+pub fields-most : (numbers : List ℕ) → ((i : ℕ) → getD numbers i 0 < 2 ^ 64) → (k : ℕ) →
+    length (fields numbers k) ≤ 21 * k
+unfolding fields field
+fields-most numbers fits zero = le-refl _
+fields-most numbers fits (suc k) =
+    omega (
+      arith,
+      length-append (fields numbers k) (32 ∷ decimal (getD numbers k 0)),
+      fields-most numbers fits k,
+      decimal-20 (getD numbers k 0) (fits k),
+    )
 
 pub line-length : (word numbers : List ℕ) →
     length (lineOf word numbers) ≡ length word + length (fields numbers (length numbers)) + 1
@@ -77,19 +91,18 @@ module _ (word numbers : List ℕ) where
   unfolding lineWrites tooShort
   line-written slice h = cond-false _ _ (le-ltb _ _ h)
 
-  -- a reply says whether the slice is long enough
-  pub line-fits : (room : ℕ) → lineReply word numbers room .refusal ≡ 0 → length (lineOf word numbers) ≤ room
-  unfolding lineReply tooShort
-  line-fits room h = go (ltb room (length (lineOf word numbers))) refl
+  -- behind the word and before the newline the numbers have to fit
+  pub line-short : (room : ℕ) → length word < room →
+      ltb (room - length word - 1) (length (fields numbers (length numbers))) ≡ tooShort word numbers room
+  unfolding tooShort
+  line-short room h = go (ltb left need) refl
     where
-      go : (b : Bool) → ltb room (length (lineOf word numbers)) ≡ b → length (lineOf word numbers) ≤ room
-      go true e = absurd (omega (arith, rw e at h))
-      go false e = ltb-false room (length (lineOf word numbers)) e
+      left : ℕ
+      left = room - length word - 1
 
-  pub line-short : (room : ℕ) → (lineReply word numbers room .refusal ≡ 0 → ⊥) → room < length (lineOf word numbers)
-  unfolding lineReply tooShort
-  line-short room h = go (ltb room (length (lineOf word numbers))) refl
-    where
-      go : (b : Bool) → ltb room (length (lineOf word numbers)) ≡ b → room < length (lineOf word numbers)
-      go true e = ltb-true room (length (lineOf word numbers)) e
-      go false e = absurd ((rw e at h) refl)
+      need : ℕ
+      need = length (fields numbers (length numbers))
+
+      go : (b : Bool) → ltb left need ≡ b → ltb left need ≡ ltb room (length (lineOf word numbers))
+      go true e = e ∙ sym (lt-ltb room _ (omega (arith, line-length word numbers, ltb-true left need e)))
+      go false e = e ∙ sym (le-ltb room _ (omega (arith, line-length word numbers, ltb-false left need e)))

@@ -1,14 +1,14 @@
--- Texts written into a slice: the slice keeps its length, one store writes one byte, a text that follows another makes one longer
--- text, and a text may be written from its last byte to its first.
--- Assumes nothing.
-use mathlib.Core.Path.{_≡_, sym, ap, ap₂, _∙_}
-use mathlib.Core.List.{List, [], _∷_, _++_, append-assoc}
-use Prim.Native.Nat.{ℕ, suc, _+_, _≤_, _<_}
-use native.Mathlib.Nat.{add-zero, le-refl}
+-- Texts written into a slice: the slice keeps its length, one store writes one byte, a text that follows another
+-- makes one longer text, and a text may be copied to the front of the slice or of what lies from a place on. Assumes
+-- nothing.
+use mathlib.Core.Path.{_≡_, sym, ap, ap₂, subst, _∙_}
+use mathlib.Core.List.{List, [], _∷_, _++_, append-assoc, append-nil}
+use Prim.Native.Nat.{ℕ, _+_, _-_, _≤_, _<_}
+use native.Mathlib.Nat.{add-zero}
 use native.Mathlib.Numerals.{add-one}
 use native.Mathlib.Omega.{arith}
-use lib.ListN.{length, take, drop, set, length-append, length-drop, length-set, take-append-drop}
-use lib.Seq.{set-split, length-take-le, take-at, drop-at, drop-drop, drop-cons, lt-length-set, getD-set-same, drop-set-lt, take-set-le, take-take, append-snoc}
+use lib.ListN.{length, take, drop, set, length-append, length-drop, take-append-drop}
+use lib.Seq.{set-split, length-take-le, take-all, take-length, drop-length, take-at, drop-at, drop-drop}
 use Rattle.lines.specs.Line.{placed}
 
 pub placed-none : (xs : List ℕ) (at : ℕ) → xs ≡ placed xs at []
@@ -67,33 +67,39 @@ placed-next xs ys at s b k e h l =
     let long : length ys ≡ length xs = ap length e ∙ placed-length xs at s (omega arith) in
     placed-one ys k b (omega arith) ∙ placed-then xs ys at s (b ∷ []) k e h (omega (arith, length-append s (b ∷ [])))
 
--- a slice xs has become ys by writing a text from behind: before `end` nothing is changed, and s is what is left to be written
-pub record Behind (xs ys s text : List ℕ) (end stop : ℕ) : Type 0 where
-  pub long : length ys ≡ length xs
-  pub same : take end ys ≡ take end xs
-  pub rest : s ++ drop end ys ≡ text ++ drop stop xs
+-- what lies from a place on is the rest of the slice, with nothing behind it
+pub rest-whole : (xs : List ℕ) (at : ℕ) → take (length xs - at) (drop at xs) ≡ drop at xs
+rest-whole xs at = take-all (length xs - at) (drop at xs) (omega (arith, length-drop at xs))
 
--- the last byte of what is left is written
-pub behind-turn : (xs ys s text : List ℕ) (b k end stop : ℕ) → end ≡ suc k → k < length ys →
-    Behind xs ys (s ++ (b ∷ [])) text end stop → Behind xs (set ys k b) s text k stop
-behind-turn xs ys s text b k end stop e l w =
-    let same : take (suc k) ys ≡ take (suc k) xs = rw e at (w .same) in
-    let rest : s ++ (b ∷ []) ++ drop (suc k) ys ≡ text ++ drop stop xs = rw e at (w .rest) in
-    let byte : drop k (set ys k b) ≡ b ∷ drop (suc k) ys =
-    drop-cons (set ys k b) k 0 (lt-length-set ys k b l)
-    ∙ ap₂ (λ (x : ℕ) (zs : List ℕ). x ∷ zs) (getD-set-same ys k b 0 l) (drop-set-lt (suc k) ys k b (le-refl _)) in
-    record {
-      long = length-set ys k b ∙ w .long;
-      same =
-          take-set-le k ys k b (le-refl _)
-          ∙ sym (take-take k (suc k) ys (omega arith))
-          ∙ ap (take k) same
-          ∙ take-take k (suc k) xs (omega arith);
-      rest = ap (λ (zs : List ℕ). s ++ zs) byte ∙ sym (append-snoc s b (drop (suc k) ys)) ∙ rest;
-    }
+pub rest-none : (xs ys : List ℕ) (at : ℕ) → ys ++ drop (length xs - at) (drop at xs) ≡ ys
+rest-none xs ys at =
+    let none : drop (length xs - at) (drop at xs) ≡ [] =
+    subst (λ (k : ℕ). drop k (drop at xs) ≡ []) (length-drop at xs) (drop-length (drop at xs)) in
+    ap (λ (zs : List ℕ). ys ++ zs) none ∙ append-nil ys
 
--- once nothing is left, the text stands at its place
-pub behind-done : (xs ys text : List ℕ) (at : ℕ) → Behind xs ys [] text at (at + length text) → ys ≡ placed xs at text
+-- a text written at the front of the rest stands at the place
+pub placed-within : (xs : List ℕ) (at : ℕ) (s : List ℕ) → take at xs ++ placed (drop at xs) 0 s ≡ placed xs at s
 unfolding placed
-behind-done xs ys text at w =
-    sym (take-append-drop at ys) ∙ ap₂ (λ (f b : List ℕ). f ++ b) (w .same) (w .rest)
+placed-within xs at s =
+    let same : at + (0 + length s) ≡ at + length s = omega arith in
+    ap (λ (zs : List ℕ). take at xs ++ (s ++ zs))
+    (drop-drop (0 + length s) at xs ∙ ap (λ (k : ℕ). drop k xs) same)
+
+-- a text copied to the front
+pub placed-front : (xs s : List ℕ) → take (length s) s ++ drop (length s) xs ≡ placed xs 0 s
+unfolding placed
+placed-front xs s =
+    let none : length s ≡ 0 + length s = omega arith in
+    ap₂ (λ (f b : List ℕ). f ++ b) (take-length s) (ap (λ (k : ℕ). drop k xs) none)
+
+-- or to what lies from a place on
+pub placed-copied : (xs : List ℕ) (at : ℕ) (s ys : List ℕ) →
+    ys ≡ take (length s) s ++ drop (length s) (take (length xs - at) (drop at xs)) →
+    take at xs ++ (ys ++ drop (length xs - at) (drop at xs)) ≡ placed xs at s
+placed-copied xs at s ys e =
+    ap (λ (zs : List ℕ). take at xs ++ zs)
+    (rest-none xs ys at
+    ∙ e
+    ∙ placed-front (take (length xs - at) (drop at xs)) s
+    ∙ ap (λ (zs : List ℕ). placed zs 0 s) (rest-whole xs at))
+    ∙ placed-within xs at s

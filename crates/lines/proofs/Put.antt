@@ -1,17 +1,18 @@
--- A line put at a place of a text: it is refused where the room is shorter than the line, and then its size is 0; what lies from the
--- place on is the rest of the text, with nothing behind it; and a line that has its place there stands there. Assumes nothing.
+-- A line put at a place of a text: its size is within the room, behind the text nothing is written, and a line that
+-- has its place there stands there. Assumes nothing.
 use Prim.Native.Nat.{ℕ, _+_, _-_, _≤_}
 use native.Mathlib.Omega.{arith}
 use mathlib.Core.Bool.{Bool, true, false}
-use mathlib.Core.Path.{_≡_, refl, sym, ap, subst, _∙_}
+use mathlib.Core.Path.{_≡_, refl, sym, ap, _∙_}
 use mathlib.Core.List.{List, [], _∷_, _++_, append-nil}
 use lib.Dec.{ltb}
 use lib.ListN.{length, take, drop, length-drop, drop-of-length-le}
-use lib.Seq.{take-all, drop-length, drop-drop}
+use lib.Seq.{take-all}
 use borrow.Author.Tests.{ltb-false}
 use Rattle.lines.specs.declared.Written.{Written}
 use Rattle.lines.specs.Line.{lineOf, tooShort, placed, lineReply, lineWrites}
 use Rattle.lines.proofs.Lines.{line-given, line-written}
+use Rattle.lines.proofs.Placed.{placed-within}
 use Rattle.lines.proofs.Laws.{line-keeps}
 
 pub line-within : (word numbers : List ℕ) (room : ℕ) → lineReply word numbers room .size ≤ room
@@ -20,13 +21,6 @@ line-within word numbers room = go (ltb room (length (lineOf word numbers))) ref
   go : (b : Bool) → ltb room (length (lineOf word numbers)) ≡ b → lineReply word numbers room .size ≤ room
   go true e = rw e (omega arith)
   go false e = rw e (ltb-false _ _ e)
-
-pub rest-whole : (xs : List ℕ) (at : ℕ) → take (length xs - at) (drop at xs) ≡ drop at xs
-rest-whole xs at = take-all (length xs - at) (drop at xs) (omega (arith, length-drop at xs))
-
-pub rest-none : (xs ys : List ℕ) (at : ℕ) → ys ++ drop (length xs - at) (drop at xs) ≡ ys
-rest-none xs ys at =
-    ap (λ (zs : List ℕ). ys ++ zs) (subst (λ (k : ℕ). drop k (drop at xs) ≡ []) (length-drop at xs) (drop-length (drop at xs))) ∙ append-nil ys
 
 -- behind the text there is no room, so the text stays as it is
 pub line-beyond : (word numbers text : List ℕ) (at : ℕ) → length text ≤ at →
@@ -50,12 +44,7 @@ put-size word numbers text at h =
 
 pub put-placed : (word numbers text : List ℕ) (at : ℕ) → at + length (lineOf word numbers) ≤ length text →
     take at text ++ lineWrites word numbers (drop at text) ≡ placed text at (lineOf word numbers)
-unfolding placed
 put-placed word numbers text at h =
-    let line = lineOf word numbers in
-    let same : at + (0 + length line) ≡ at + length line = omega arith in
-    let rest : drop (0 + length line) (drop at text) ≡ drop (at + length line) text =
-    drop-drop (0 + length line) at text ∙ ap (λ (k : ℕ). drop k text) same in
     ap (λ (zs : List ℕ). take at text ++ zs)
-    (line-written word numbers (drop at text) (omega (arith, length-drop at text))
-    ∙ ap (λ (zs : List ℕ). line ++ zs) rest)
+    (line-written word numbers (drop at text) (omega (arith, length-drop at text)))
+    ∙ placed-within text at (lineOf word numbers)

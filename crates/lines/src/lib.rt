@@ -2,8 +2,9 @@
 ghost use mathlib.Core.Path.{_≡_};
 ghost use mathlib.Core.List.{_++_};
 ghost use Prim.Native.Nat.{_+_, _-_, _≤_};
+ghost use lib.Dec.{ltb};
 ghost use lib.ListN.{length, take, drop};
-ghost use Rattle.lines.specs.Line.{decimal, field, fields, placed, lineReply, lineWrites};
+ghost use Rattle.lines.specs.Line.{decimal, field, fields, placed, tooShort, lineReply, lineWrites};
 
 // The reply of a line: the refusal's number, or 0 with the number of bytes written.
 pub struct Written {
@@ -11,79 +12,58 @@ pub struct Written {
     pub size: usize,
 }
 
-// How many decimal digits n has.
-fn digits(n: u64) -> usize
-    ensures { λ r. ⌜ (r ≡ length (decimal n)) × (r ≤ 20) ⌝ }
+// Whether the numbers, each as a space and its digits, are longer than the room, which they use up one by one.
+fn numbers_exceed(numbers: &[u64], room: usize) -> bool
+    ensures { λ r. ⌜ r ≡ ltb room (length (fields (now (numbers .entry)) (length (now (numbers .entry))))) ⌝ }
 {
-    let mut count: usize = 1;
-    let mut left = n;
-    while 10 <= left {
-        left /= 10;
-        count += 1;
-    }
-    count
-}
-
-// The reply: the room is used up by the word, by each number and by the newline, and a line that is longer is refused at once.
-fn measured(word: &[u8], numbers: &[u64], room: usize) -> Written
-    ensures { λ r. ⌜ r ≡ lineReply (now (word .entry)) (now (numbers .entry)) room ⌝ }
-{
-    if room < word.len() {
-        return Written {
-            refusal: 10,
-            size: 0,
-        };
-    }
-    let mut size = word.len();
+    let mut left = room;
     let mut i: usize = 0;
     while i < numbers.len() {
-        let more = 1 + digits(numbers[i]);
-        if room - size < more {
-            return Written {
-                refusal: 10,
-                size: 0,
-            };
+        let mut digits = [0u8; 20];
+        let more = 1 + io::decimal(numbers[i], &mut digits);
+        if left < more {
+            return true;
         }
-        size += more;
+        left -= more;
         i += 1;
     }
-    if room <= size {
-        return Written {
-            refusal: 10,
-            size: 0,
-        };
-    }
-    Written {
-        refusal: 0,
-        size: size + 1,
-    }
+    false
 }
 
-// Writes the word at the front of the slice.
-fn put_word(out: &mut [u8], word: &[u8])
-    requires { ⌜ length (now word) ≤ length (now out) ⌝ }
-    ensures { λ r. ⌜ now (out .exit) ≡ placed (now (out .entry)) 0 (now (word .entry)) ⌝ }
+// Whether the line is longer than the room. A number takes at most 21 bytes, so the numbers are measured only where
+// the room is scant.
+fn too_short(word: &[u8], numbers: &[u64], room: usize) -> bool
+    ensures { λ r. ⌜ r ≡ tooShort (now (word .entry)) (now (numbers .entry)) room ⌝ }
 {
-    let mut i: usize = 0;
-    while i < word.len() {
-        out[i] = word[i];
-        i += 1;
+    if room <= word.len() {
+        return true;
     }
+    let left = room - word.len() - 1;
+    if numbers.len() <= left / 21 {
+        return false;
+    }
+    numbers_exceed(numbers, left)
 }
 
-// Writes the digits of n, so many as they are, at a place of the slice, from the last to the first.
-fn put_digits(out: &mut [u8], at: usize, size: usize, n: u64)
-    requires { ⌜ (size ≡ length (decimal n)) × (at + size ≤ length (now out)) ⌝ }
+// Writes the digits of n at a place of the slice, and gives the place behind them. Most numbers have one digit or two,
+// which are written at once.
+fn put_digits(out: &mut [u8], at: usize, n: u64) -> usize
+    requires { ⌜ at + length (decimal n) ≤ length (now out) ⌝ }
+    ensures { λ r. ⌜ r ≡ at + length (decimal n) ⌝ }
     ensures { λ r. ⌜ now (out .exit) ≡ placed (now (out .entry)) at (decimal n) ⌝ }
 {
-    let mut left = n;
-    let mut end = at + size;
-    while 10 <= left {
-        end -= 1;
-        out[end] = 48 + (left % 10) as u8;
-        left /= 10;
+    if n < 10 {
+        out[at] = 48 + n as u8;
+        return at + 1;
     }
-    out[end - 1] = 48 + left as u8;
+    if n < 100 {
+        out[at] = 48 + (n / 10) as u8;
+        out[at + 1] = 48 + (n % 10) as u8;
+        return at + 2;
+    }
+    let mut digits = [0u8; 20];
+    let size = io::decimal(n, &mut digits);
+    at + bytes::copy(&digits[..size], &mut out[at..])
 }
 
 // Writes a space and the digits of n at a place of the slice, and gives the place behind them.
@@ -92,10 +72,8 @@ fn put_number(out: &mut [u8], at: usize, n: u64) -> usize
     ensures { λ r. ⌜ r ≡ at + length (field n) ⌝ }
     ensures { λ r. ⌜ now (out .exit) ≡ placed (now (out .entry)) at (field n) ⌝ }
 {
-    let size = digits(n);
     out[at] = b' ';
-    put_digits(out, at + 1, size, n);
-    at + 1 + size
+    put_digits(out, at + 1, n)
 }
 
 // Writes the numbers at a place of the slice, each as a space and its digits, and gives the place behind them.
@@ -118,14 +96,19 @@ pub fn write_line(out: &mut [u8], word: &[u8], numbers: &[u64]) -> Written
     ensures { λ r. ⌜ r ≡ lineReply (now (word .entry)) (now (numbers .entry)) (length (now (out .entry))) ⌝ }
     ensures { λ r. ⌜ now (out .exit) ≡ lineWrites (now (word .entry)) (now (numbers .entry)) (now (out .entry)) ⌝ }
 {
-    let reply = measured(word, numbers, out.len());
-    if reply.refusal != 0 {
-        return reply;
+    if too_short(word, numbers, out.len()) {
+        return Written {
+            refusal: 10,
+            size: 0,
+        };
     }
-    put_word(out, word);
-    let end = put_numbers(out, word.len(), numbers);
+    let place = bytes::copy(word, out);
+    let end = put_numbers(out, place, numbers);
     out[end] = b'\n';
-    reply
+    Written {
+        refusal: 0,
+        size: end + 1,
+    }
 }
 
 // Puts a line at a place that lies within the text.

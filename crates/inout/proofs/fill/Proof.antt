@@ -1,4 +1,5 @@
--- `inout::fill` meets its contract: where the bytes have no such part it reads nothing, and else the part is filled. Assumes nothing.
+-- `inout::fill` meets its contract: where the bytes have no such part it reads nothing, and else the part is filled.
+-- Assumes nothing.
 use mathlib.Core.Path.{refl}
 use native.Mathlib.Omega.{arith}
 use borrow.Author.Needs.{needs}

@@ -1,5 +1,5 @@
--- `inout::print_line` meets its contract: the size that was written lies within the text, and printing leaves the text as it is.
--- Assumes nothing.
+-- `inout::print_line` meets its contract: the size that was written lies within the text, and printing leaves the text
+-- as it is. Assumes nothing.
 use Prim.Native.Nat.{_≤_}
 use mathlib.Core.Path.{sym, ap}
 use native.Mathlib.Omega.{arith}
@@ -13,10 +13,11 @@ use Rattle.inout.proofs.print_line.Tie as tie
 
 fits : (c : tie.After-write-line) → c .write-line .result .size ≤ length (c .write-line .last .0)
 fits c =
+    let f = c .before .before .before .before .before .args in
     omega (
       arith,
       ap (λ (w : Written). w .size) (c .write-line .ensures .0),
-      line-within (c .before .before .before .before .before .args .word .now) (c .before .before .before .before .before .args .numbers .now) (length (c .before .before .before .before .before .args .text .now)),
+      line-within (f .word .now) (f .numbers .now) (length (f .text .now)),
     )
 
 write-line-requires : tie.Need-write-line-requires

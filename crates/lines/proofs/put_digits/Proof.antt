@@ -1,119 +1,181 @@
--- `lines::put_digits` meets its contract: the digits of the number left, with what stands behind `end`, are the digits of n with what stood
--- behind them; before `end` nothing is written yet. The number left falls. Assumes nothing.
-use mathlib.Core.Path.{_≡_, refl, ap, _∙_}
-use mathlib.Core.List.{[], _∷_, _++_}
-use Prim.Native.Nat.{ℕ, _≤_, _+_, _-_}
+-- `lines::put_digits` meets its contract: below 10 the text of the number is one byte, below 100 two, stored one
+-- behind the other; from there on it is what `io::decimal` puts down, copied to its place. Assumes nothing.
+use mathlib.Core.Path.{_≡_, ap, sym, _∙_}
+use mathlib.Core.List.{List, [], _∷_}
+use Prim.Native.Nat.{ℕ, _+_, _-_, _/_, _%_, _≤_}
 use native.Mathlib.Omega.{arith}
-use lib.ListN.{length, drop, set, length-set, length-append, length-drop}
-use Rattle.lines.specs.Line.{decimal}
-use Rattle.lines.proofs.Decimal.{decimal-small, decimal-longer, decimal-large, decimal-some}
-use Rattle.lines.proofs.Placed.{Behind, behind-turn, behind-done}
+use lib.ListN.{length, take, length-set, length-drop}
+use Rattle.lines.specs.Line.{decimal, placed}
+use Rattle.lines.proofs.Decimal.{decimal-small, decimal-two, decimal-told}
+use Rattle.lines.proofs.Placed.{placed-one, placed-next, placed-copied, rest-whole}
+use borrow.Rule.Slice.PartMut.{same-len-mid}
 use borrow.Author.Needs.{needs}
 use Rattle.lines.proofs.put_digits.Statement.{statement}
 use Rattle.lines.proofs.put_digits.Tie as tie
 
-abbrev Inv-loop : tie.InvT-loop
-Inv-loop out₀ at size n left₀ end₀ out left end = (end ≡ at + length (decimal left)) × Behind out₀ out (decimal left) (decimal n) end (at + size)
+-- one digit
+one-is : (c : tie.Then1) → decimal (c .before .before .args .n) ≡ (48 + c .before .before .args .n) ∷ []
+one-is c = decimal-small (c .before .before .args .n) (c .if1 .taken)
 
-abbrev μ-loop : tie.MeasureT-loop
-μ-loop out₀ at size n left₀ end₀ out left end = left
+-- two digits
+abbrev two-of : tie.Then2 → tie.Start
+two-of c = c .before .before .before
 
--- what is left to be written has its place within the slice
-shorter : (c : tie.At-loop Inv-loop μ-loop) → c .loop .end ≤ length (c .loop .out)
-shorter c =
-    let f = c .before .args in
-    let left = c .loop .left in
-    let end = c .loop .end in
-    let out = c .loop .out in
-    omega (
-      arith,
-      c .loop .inv .1 .long,
-      ap length (c .loop .inv .1 .rest),
-      length-append (decimal left) (drop end out),
-      length-drop end out,
-      length-append (decimal (f .n)) (drop (f .at + f .size) (f .out .now)),
-      length-drop (f .at + f .size) (f .out .now),
-    )
+two-is : (c : tie.Then2) →
+    let n = two-of c .args .n in
+    decimal n ≡ (48 + n / 10) ∷ (48 + n % 10) ∷ []
+two-is c = decimal-two (two-of c .args .n) (c .before .if1 .left) (c .if2 .taken)
 
-add-end : tie.Need-add-end Inv-loop μ-loop
-add-end c = search needs
+-- more: the digits that were put down
+abbrev start-of : tie.After-decimal → tie.Start
+start-of c = c .before .before .before .before .before
 
-loop-holds : tie.Need-loop-holds Inv-loop μ-loop
-loop-holds c = (search needs, record { long = refl; same = refl; rest = refl })
+abbrev digits-of : tie.After-decimal → List ℕ
+digits-of c = take (c .decimal .result) (c .decimal .last .1 .0)
 
-sub-end : tie.Need-sub-end Inv-loop μ-loop
-sub-end c = omega (arith, decimal-some (c .before .loop .left))
+digits-are : (c : tie.After-decimal) → digits-of c ≡ decimal (start-of c .args .n)
+digits-are c = decimal-told (start-of c .args .n) (c .decimal .result) (c .decimal .last .1 .0) (c .decimal .ensures)
 
-cast-out : tie.Need-cast-out Inv-loop μ-loop
+room-of : (c : tie.After-decimal) → start-of c .args .at + length (digits-of c) ≤ length (start-of c .args .out .now)
+room-of c = omega (arith, start-of c .pre, ap length (digits-are c))
+
+cast-out : tie.Need-cast-out
 cast-out c = search needs
 
-add-out : tie.Need-add-out Inv-loop μ-loop
+add-out : tie.Need-add-out
 add-out c = search needs
 
-slice-write-out : tie.Need-slice-write-out Inv-loop μ-loop
-slice-write-out c = omega (arith, decimal-some (c .before .loop .left), shorter (c .before))
+slice-write-out : tie.Need-slice-write-out
+slice-write-out c = omega (arith, ap length (one-is c))
 
-loop-less : tie.Need-loop-less Inv-loop μ-loop
-loop-less c = search needs
+add-result : tie.Need-add-result
+add-result c = omega (arith, ap length (one-is c))
 
-loop-again : tie.Need-loop-again Inv-loop μ-loop
-loop-again c =
-    let left = c .before .loop .left in
-    let end = c .before .loop .end in
-    let longer = decimal-longer left (c .loop-test .taken) in
-    let w = c .before .loop .inv .1 in (
-      omega arith,
-      behind-turn _ _ _ _ _ (end - 1) end _ (omega (arith, decimal-some left))
-          (omega (arith, decimal-some left, shorter (c .before)))
-          (rw (decimal-large left (c .loop-test .taken)) at w),
+same-length : tie.Need-same-length
+same-length c = search needs
+
+returns : tie.Need-returns
+returns c =
+    let f = c .before .before .args in
+    let out = f .out .now in
+    let one = one-is c in (
+      omega (arith, ap length one),
+      placed-one out (f .at) (48 + f .n) (omega (arith, ap length one)) ∙ ap (placed out (f .at)) (sym one),
     )
 
-cast-out-2 : tie.Need-cast-out-2 Inv-loop μ-loop
+cast-out-2 : tie.Need-cast-out-2
 cast-out-2 c = search needs
 
-add-out-2 : tie.Need-add-out-2 Inv-loop μ-loop
+add-out-2 : tie.Need-add-out-2
 add-out-2 c = search needs
 
-sub-out : tie.Need-sub-out Inv-loop μ-loop
-sub-out c = omega (arith, decimal-some (c .before .loop .left))
+slice-write-out-2 : tie.Need-slice-write-out-2
+slice-write-out-2 c = omega (arith, ap length (two-is c))
 
-slice-write-out-2 : tie.Need-slice-write-out-2 Inv-loop μ-loop
-slice-write-out-2 c = omega (arith, decimal-some (c .before .loop .left), shorter (c .before))
+cast-out-3 : tie.Need-cast-out-3
+cast-out-3 c = search needs
 
-same-length : tie.Need-same-length Inv-loop μ-loop
-same-length c = length-set (c .before .loop .out) _ _ ∙ c .before .loop .inv .1 .long
+add-out-3 : tie.Need-add-out-3
+add-out-3 c = search needs
 
-returns : tie.Need-returns Inv-loop μ-loop
-returns c =
-    let left = c .before .loop .left in
-    let end = c .before .loop .end in
-    let f = c .before .before .args in
-    let small = decimal-small left (c .loop-test .left) in
-    let w : Behind (f .out .now) (c .before .loop .out) ([] ++ ((48 + left) ∷ [])) (decimal (f .n)) end (f .at + length (decimal (f .n))) =
-    rw (small, c .before .before .pre .0) at (c .before .loop .inv .1) in
-    let last : end - 1 ≡ f .at = omega (arith, ap length small) in
-    ap (λ (k : ℕ). set (c .before .loop .out) k (48 + left)) last
-    ∙ behind-done (f .out .now) _ (decimal (f .n)) (f .at)
-    (behind-turn (f .out .now) (c .before .loop .out) [] (decimal (f .n)) (48 + left) (f .at) end (f .at + length (decimal (f .n)))
-    (omega (arith, ap length small)) (omega (arith, decimal-some left, shorter (c .before))) w)
+add-out-4 : tie.Need-add-out-4
+add-out-4 c = omega (arith, ap length (two-is c))
+
+slice-write-out-3 : tie.Need-slice-write-out-3
+slice-write-out-3 c = simp length-set (omega (arith, ap length (two-is c)))
+
+add-result-2 : tie.Need-add-result-2
+add-result-2 c = omega (arith, ap length (two-is c))
+
+same-length-2 : tie.Need-same-length-2
+same-length-2 c = simp length-set
+
+returns-2 : tie.Need-returns-2
+returns-2 c =
+    let f = two-of c .args in
+    let out = f .out .now in
+    let two = two-is c in
+    let first = placed-one out (f .at) (48 + f .n / 10) (omega (arith, ap length two)) in (
+      omega (arith, ap length two),
+      placed-next out _ (f .at) ((48 + f .n / 10) ∷ []) (48 + f .n % 10) (f .at + 1) first (omega arith)
+          (omega (arith, ap length two))
+          ∙ ap (placed out (f .at)) (sym two),
+    )
+
+decimal-requires : tie.Need-decimal-requires
+decimal-requires c κs = search needs
+
+array-share-prefix-digits : tie.Need-array-share-prefix-digits
+array-share-prefix-digits c = search needs
+
+slice-aggregate-copy : tie.Need-slice-aggregate-copy
+slice-aggregate-copy c = search needs
+
+sub-copy : tie.Need-sub-copy
+sub-copy c = omega (arith, room-of (c .before))
+
+part-copy-start : tie.Need-part-copy-start
+part-copy-start c = omega (arith, room-of (c .before))
+
+part-copy-end : tie.Need-part-copy-end
+part-copy-end c = search needs
+
+copy-requires : tie.Need-copy-requires
+copy-requires c κs =
+    let f = start-of (c .before .before) .args in
+    let rest = ap length (rest-whole (f .out .now) (f .at)) ∙ length-drop (f .at) (f .out .now) in
+    omega (arith, room-of (c .before .before))
+
+add-result-3 : tie.Need-add-result-3
+add-result-3 c =
+    let digits = c .before .before .before .before .before in
+    omega (arith, c .before .before .copy .ensures .0, room-of digits, start-of digits .good .0 .0)
+
+same-length-3 : tie.Need-same-length-3
+same-length-3 c =
+    let copy = c .before .before .copy in
+    let f = start-of (c .before .before .before .before .before) .args in
+    let out = f .out .now in
+    same-len-mid (f .at) (length out - f .at) out (copy .last .1 .0) (copy .kept .1 .0)
+
+returns-3 : tie.Need-returns-3
+returns-3 c =
+    let copy = c .before .before .copy in
+    let digits = c .before .before .before .before .before in
+    let f = start-of digits .args in
+    let told = digits-are digits in (
+      omega (arith, copy .ensures .0, ap length told),
+      placed-copied (f .out .now) (f .at) (digits-of digits) _ (copy .ensures .1)
+          ∙ ap (placed (f .out .now) (f .at)) told,
+    )
 
 pub put-digits-spec : {M : Type 1} → statement M
 put-digits-spec =
     tie.close
     (tie.spec
-    Inv-loop
-    μ-loop
-    add-end
-    loop-holds
-    sub-end
     cast-out
     add-out
     slice-write-out
-    loop-less
-    loop-again
+    add-result
+    same-length
+    returns
     cast-out-2
     add-out-2
-    sub-out
     slice-write-out-2
-    same-length
-    returns)
+    cast-out-3
+    add-out-3
+    add-out-4
+    slice-write-out-3
+    add-result-2
+    same-length-2
+    returns-2
+    decimal-requires
+    array-share-prefix-digits
+    slice-aggregate-copy
+    sub-copy
+    part-copy-start
+    part-copy-end
+    copy-requires
+    add-result-3
+    same-length-3
+    returns-3)

@@ -1,4 +1,5 @@
--- `lines::put_line` meets its contract: behind the text there is no room for a line; within it the line is put there. Assumes nothing.
+-- `lines::put_line` meets its contract: behind the text there is no room for a line; within it the line is put
+-- there. Assumes nothing.
 use Prim.Native.Nat.{_-_}
 use native.Mathlib.Omega.{arith}
 use lib.ListN.{length}
@@ -11,7 +12,8 @@ returns : tie.Need-returns
 returns c =
     let a = c .before .before .before .before .args in
     let fits = line-within (a .word .now) (a .numbers .now) (length (a .text .now) - a .at) in
-    (omega (arith, fits), (omega arith, line-beyond (a .word .now) (a .numbers .now) (a .text .now) (a .at) (omega arith)))
+    let same = line-beyond (a .word .now) (a .numbers .now) (a .text .now) (a .at) (omega arith) in
+    (omega (arith, fits), (omega arith, same))
 
 put-within-requires : tie.Need-put-within-requires
 put-within-requires c κs = search needs

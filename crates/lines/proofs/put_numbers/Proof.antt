@@ -1,5 +1,5 @@
--- `lines::put_numbers` meets its contract: after i turns the first i numbers stand at the place, and `end` is behind them. What is left of the
--- numbers falls. Assumes nothing.
+-- `lines::put_numbers` meets its contract: after i turns the first i numbers stand at the place, and `end` is behind
+-- them. What is left of the numbers falls. Assumes nothing.
 use mathlib.Core.Path.{_≡_, ap, sym, _∙_}
 use Prim.Native.Nat.{ℕ, _+_, _≤_, _-_}
 use native.Mathlib.Omega.{arith}
@@ -12,7 +12,8 @@ use Rattle.lines.proofs.put_numbers.Statement.{statement}
 use Rattle.lines.proofs.put_numbers.Tie as tie
 
 abbrev Inv-loop : tie.InvT-loop
-Inv-loop out₀ at numbers end₀ i₀ out end i = (i ≤ length numbers) × ((end ≡ at + length (fields numbers i)) × (out ≡ placed out₀ at (fields numbers i)))
+Inv-loop out₀ at numbers end₀ i₀ out end i =
+    (i ≤ length numbers) × ((end ≡ at + length (fields numbers i)) × (out ≡ placed out₀ at (fields numbers i)))
 
 abbrev μ-loop : tie.MeasureT-loop
 μ-loop out₀ at numbers end₀ i₀ out end i = length numbers - i
@@ -30,8 +31,8 @@ long-of c =
 
 -- there is room for one number more
 room-of : (c : tie.In-loop Inv-loop μ-loop) →
-    start-of (c .before) .args .at + length (fields (start-of (c .before) .args .numbers .now) (c .before .loop .i + 1))
-    ≤ length (start-of (c .before) .args .out .now)
+    let f = start-of (c .before) .args in
+    f .at + length (fields (f .numbers .now) (c .before .loop .i + 1)) ≤ length (f .out .now)
 room-of c =
     let numbers = start-of (c .before) .args .numbers .now in
     omega (arith, fields-more numbers (c .before .loop .i + 1) (length numbers) (search needs))
@@ -49,8 +50,8 @@ shared-slice-read-put-number c = search needs
 put-number-requires : tie.Need-put-number-requires Inv-loop μ-loop
 put-number-requires c κs =
     let head = c .before .before .before in
-    omega
-    (arith, room-of (c .before .before), fields-longer (start-of head .args .numbers .now) (head .loop .i), long-of head)
+    let longer = fields-longer (start-of head .args .numbers .now) (head .loop .i) in
+    omega (arith, room-of (c .before .before), long-of head)
 
 add-i : tie.Need-add-i Inv-loop μ-loop
 add-i c = search needs
@@ -60,18 +61,21 @@ loop-less c = search needs
 
 loop-again : tie.Need-loop-again Inv-loop μ-loop
 loop-again c =
-    let head = c .before .before .before .before .before .before in
+    let inside = c .before .before .before .before .before in
+    let head = inside .before in
     let f = start-of head .args in
+    let put = c .before .before .put-number in
     let numbers = f .numbers .now in
     let i = head .loop .i in
     let longer = fields-longer numbers i in
     let turn = fields-turn numbers i in (
       search needs,
       (
-        omega (arith, c .before .before .put-number .ensures .0),
-        c .before .before .put-number .ensures .1
-            ∙ placed-then (f .out .now) (head .loop .out) (f .at) (fields numbers i) (field (getD numbers i 0)) (head .loop .end)
-            (head .loop .inv .1 .1) (head .loop .inv .1 .0) (omega (arith, room-of (c .before .before .before .before .before), ap length turn))
+        omega (arith, put .ensures .0),
+        put .ensures .1
+            ∙ placed-then (f .out .now) (head .loop .out) (f .at) (fields numbers i) (field (getD numbers i 0))
+            (head .loop .end) (head .loop .inv .1 .1) (head .loop .inv .1 .0)
+            (omega (arith, room-of inside, ap length turn))
             ∙ ap (placed (f .out .now) (f .at)) (sym turn),
       ),
     )

@@ -1,5 +1,5 @@
--- `lines::put_within` meets its contract: the line is written at the front of what lies from the place on, and its size lies within that.
--- Assumes nothing.
+-- `lines::put_within` meets its contract: the line is written at the front of what lies from the place on, and its
+-- size lies within that. Assumes nothing.
 use Prim.Native.Nat.{ℕ, _+_, _-_, _≤_}
 use mathlib.Core.Path.{_≡_, ap, _∙_}
 use mathlib.Core.List.{List, _++_}
@@ -7,23 +7,32 @@ use native.Mathlib.Omega.{arith}
 use lib.ListN.{length, take, length-drop}
 use Rattle.lines.specs.declared.Written.{Written}
 use Rattle.lines.specs.Line.{lineReply, lineWrites}
-use Rattle.lines.proofs.Put.{line-within, rest-whole, rest-none}
+use Rattle.lines.proofs.Placed.{rest-whole, rest-none}
+use Rattle.lines.proofs.Put.{line-within}
 use borrow.Author.Needs.{needs}
 use Rattle.lines.proofs.put_within.Statement.{statement}
 use Rattle.lines.proofs.put_within.Tie as tie
 
+abbrev start-of : tie.After-write-line → tie.Start
+start-of c = c .before .before .before .before .before
+
 abbrev text-of : tie.After-write-line → List ℕ
-text-of c = c .before .before .before .before .before .args .text .now
+text-of c = start-of c .args .text .now
 
-is : (c : tie.After-write-line) → c .write-line .result .size ≡ lineReply (c .before .before .before .before .before .args .word .now) (c .before .before .before .before .before .args .numbers .now) (length (text-of c) - c .before .before .before .before .before .args .at) .size
+is : (c : tie.After-write-line) →
+    let f = start-of c .args in
+    c .write-line .result .size ≡ lineReply (f .word .now) (f .numbers .now) (length (text-of c) - f .at) .size
 is c =
+    let f = start-of c .args in
     ap (λ (w : Written). w .size) (c .write-line .ensures .0)
-    ∙ ap (λ (k : ℕ). lineReply (c .before .before .before .before .before .args .word .now) (c .before .before .before .before .before .args .numbers .now) k .size) (ap length (rest-whole (text-of c) (c .before .before .before .before .before .args .at)) ∙ length-drop (c .before .before .before .before .before .args .at) (text-of c))
+    ∙ ap (λ (k : ℕ). lineReply (f .word .now) (f .numbers .now) k .size)
+    (ap length (rest-whole (text-of c) (f .at)) ∙ length-drop (f .at) (text-of c))
 
-within : (c : tie.After-write-line) → c .before .before .before .before .before .args .at + c .write-line .result .size ≤ length (text-of c)
+within : (c : tie.After-write-line) → start-of c .args .at + c .write-line .result .size ≤ length (text-of c)
 within c =
-    let fits = line-within (c .before .before .before .before .before .args .word .now) (c .before .before .before .before .before .args .numbers .now) (length (text-of c) - c .before .before .before .before .before .args .at) in
-    omega (arith, is c, fits, c .before .before .before .before .before .pre)
+    let f = start-of c .args in
+    let fits = line-within (f .word .now) (f .numbers .now) (length (text-of c) - f .at) in
+    omega (arith, is c, fits, start-of c .pre)
 
 sub-write-line : tie.Need-sub-write-line
 sub-write-line c = search needs
@@ -44,7 +53,20 @@ same-length : tie.Need-same-length
 same-length c = search needs
 
 returns : tie.Need-returns
-returns c = (ap (λ (k : ℕ). c .before .before .before .before .before .before .before .before .args .at + k) (is (c .before .before .before)), (within (c .before .before .before), ap (λ (ys : List ℕ). take (c .before .before .before .before .before .before .before .before .args .at) (c .before .before .before .before .before .before .before .before .args .text .now) ++ ys) (rest-none (c .before .before .before .before .before .before .before .before .args .text .now) (c .before .before .before .write-line .last .0) (c .before .before .before .before .before .before .before .before .args .at) ∙ c .before .before .before .write-line .ensures .1 ∙ ap (lineWrites (c .before .before .before .before .before .before .before .before .args .word .now) (c .before .before .before .before .before .before .before .before .args .numbers .now)) (rest-whole (c .before .before .before .before .before .before .before .before .args .text .now) (c .before .before .before .before .before .before .before .before .args .at)))))
+returns c =
+    let last = c .before .before .before in
+    let f = start-of last .args in
+    let at = f .at in
+    let text = text-of last in (
+      ap (λ (k : ℕ). at + k) (is last),
+      (
+        within last,
+        ap (λ (ys : List ℕ). take at text ++ ys)
+            (rest-none text (last .write-line .last .0) at
+            ∙ last .write-line .ensures .1
+            ∙ ap (lineWrites (f .word .now) (f .numbers .now)) (rest-whole text at)),
+      ),
+    )
 
 pub put-within-spec : {M : Type 1} → statement M
 put-within-spec =
