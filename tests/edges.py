@@ -1,4 +1,4 @@
-"""Run files of which the rules tell beforehand where the listing ends, or the whole of it. Both programs are held to it."""
+"""Run files of which the rules tell beforehand how the listing ends, or all of it. Both programs are held to that."""
 
 from runfiles import TOP, Run, Table, aimed_tables, bits, largest_t, new_run, table_rows
 
@@ -30,7 +30,7 @@ def end_of(run, length):
 
 
 def cut_files(rng):
-    """Files that end at the heading's end, at each table's end, and next to them: what it is, the bytes, how it ends."""
+    """Files that end with the heading, with each table, and next to that: what it is, the bytes, how it ends."""
     for n, t_byte in CUT_SIZES:
         run = cut_run(rng, n, t_byte)
         data = run.to_bytes() + bytes((1, 2))
