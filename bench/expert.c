@@ -1,11 +1,11 @@
-/* expert < FILE prints the listing of a run file in as few x86-64 instructions as we know how: the bench's yardstick.
+/* expert < FILE prints the listing of a run file column by column, in few x86-64 instructions: the bench's yardstick.
 
-   How it saves them:
-   - Sound boxes send the same to all, so for each leader they fall into camps, one for each row that is said. A box
-     counts camps and not senders, and where nobody's list touches a camp, one look answers for all boxes.
-   - Leaders do not meet before step 5, so one leader is taken through all steps before the next.
-   - The file stays where it was read. Of its tables only those rows of liars are read that a box hears and that can
-     still change its answer.
+   For every sound box and every leader the column of what the boxes say is gone through, once to vote and once to
+   grade. How it saves instructions:
+   - Sound boxes send the same to all, so their part of a column is put down once for all boxes, and it comes first.
+   - A column ends at the first clear answer: a row that already stands often enough, or none that still can.
+   - The file stays where it was read. Of its tables only the rows of faulty senders are taken, and those only where
+     the sound boxes' part of the column gave no answer.
    - Rows stand as the file has them, most significant byte first. Whether two are equal shows as well that way. */
 #include <stdint.h>
 #include <string.h>
@@ -17,51 +17,37 @@ enum { MOST_BOXES = 13, MARK_BYTES = 9, ROW_BYTES = 8, MOST_BYTES = 182633, MOST
 #define FOR_EACH(box, set) \
     for (unsigned left_ = (set), box; left_ != 0 && (box = (unsigned)__builtin_ctz(left_), 1); left_ &= left_ - 1)
 
+/* The places of a column from the last to the second, for a switch that is entered at the column's length. */
+#define BEHIND_THE_FIRST(DO) DO(13) DO(12) DO(11) DO(10) DO(9) DO(8) DO(7) DO(6) DO(5) DO(4) DO(3) DO(2)
+
+/* Kept out of the loops that call it, which are shorter without it. */
+#define SELDOM __attribute__((noinline))
+
 /* A row and in how many places it stands. */
 struct found {
     uint64_t row;
     unsigned places;
 };
 
-/* The sound boxes that say one row about a leader. */
-struct camp {
-    uint64_t row;
-    unsigned members, size;
-};
-
-/* All that say something non-zero about a leader. */
-struct camps {
-    unsigned count, all;
-    struct camp camp[MOST_BOXES];
-};
-
-struct tally {
-    unsigned count;
-    uint64_t row[MOST_BOXES];
-    unsigned places[MOST_BOXES];
-};
-
 struct run {
-    unsigned n, t, faulty, sound, faulty_count, sound_count;
-    unsigned to_vote, to_be_sure;                   /* places for a vote; for confidence 2 whatever else is said */
-    unsigned trusted;                               /* sound boxes that all sound boxes grade with 2 in any case */
+    unsigned n, t, faulty, sound, sound_count;
+    unsigned to_vote, to_be_sure;  /* places for a vote; for confidence 2 whatever else is said */
     unsigned done;
     uint64_t sent;
     uint64_t row[MOST_BOXES];
-    unsigned list[MOST_BOXES], joining[MOST_BOXES]; /* the list in force, and what joins it in step 5 */
-    unsigned listed;                                /* boxes on any sound box's list */
-    unsigned ears[MOST_BOXES];                      /* sound boxes that hear a box */
-    struct tally shared;                            /* rows that all sound boxes hold alike, with their leaders */
-    uint64_t own[MOST_BOXES][MOST_BOXES];           /* rows of other leaders that one box holds */
-    unsigned own_count[MOST_BOXES];
+    unsigned list[MOST_BOXES];
+    unsigned listed;               /* boxes on any sound box's list */
 };
 
-/* The faulty boxes that a box hears, and where they speak to it of one leader: box 1's place in the table, and how far
-   it is from one box's to the next. */
-struct liars {
-    unsigned heard;
-    const uint8_t *at;
-    size_t stride;
+/* For each leader what the sound boxes say of it, in their order, and behind that room for what liars say. */
+typedef uint64_t column[MOST_BOXES + 3];
+
+/* Whom one box hears in a step. */
+struct hearing {
+    unsigned sound;                  /* as bits */
+    unsigned to_answer;              /* so many sound boxes that agree are an answer; 0 where they cannot be one */
+    unsigned liars;                  /* how many */
+    const uint8_t *from[MOST_BOXES]; /* what each of these liars says to it, leader after leader */
 };
 
 static uint8_t file[MOST_BYTES + 1];
@@ -85,230 +71,187 @@ static int is_before(unsigned places, uint64_t row, struct found best)
     return places > best.places || (places == best.places && number_of(row) < number_of(best.row));
 }
 
-static void one_camp(struct camps *camps, uint64_t row, unsigned members, unsigned size)
+/* The row that stands in all of the places, or 0. */
+static uint64_t common_row(const uint64_t *rows, unsigned places)
 {
-    camps->count = 1;
-    camps->all = size;
-    camps->camp[0] = (struct camp){row, members, size};
-}
-
-static void join_camp(struct camps *camps, uint64_t row, unsigned member)
-{
-    struct camp *camp = camps->camp, *end = camp + camps->count;
-    camps->all++;
-    while (camp != end && camp->row != row)
-        camp++;
-    if (camp == end) {
-        camps->count++;
-        *camp = (struct camp){row, 0, 0};
+    uint64_t row = rows[0];
+    switch (places) {
+#define LOOK(place) case place: if (rows[place - 1] != row) return 0; __attribute__((fallthrough));
+    BEHIND_THE_FIRST(LOOK)
+    case 1: return row;
+    case 0: return 0;
+    default: __builtin_unreachable();
     }
-    camp->members |= 1u << member;
-    camp->size++;
 }
 
-/* Whether all boxes hear the whole of the only camp. */
-static int is_common(const struct run *run, const struct camps *camps)
+/* In how many of the places the row of the first one stands. */
+static unsigned places_of_first(const uint64_t *rows, unsigned places)
 {
-    return camps->count == 1 && (camps->camp[0].members & run->listed) == 0;
+    uint64_t row = rows[0];
+    uint8_t found = 1;
+    switch (places) {
+#define COUNT(place) case place: found = (uint8_t)(found + (rows[place - 1] == row)); __attribute__((fallthrough));
+    BEHIND_THE_FIRST(COUNT)
+    case 1: return found;
+    default: __builtin_unreachable();
+    }
 }
 
-static unsigned heard_of(const struct camp *camp, unsigned list)
+/* The row found most often, the lowest on a tie. Rows that cannot stand more often than `least` are passed over; one
+   that was counted before is counted from a later place, so fewer times, and does no harm. */
+static struct found most_often(const uint64_t *rows, unsigned places, unsigned least)
 {
-    return (camp->members & list) == 0 ? camp->size : (unsigned)__builtin_popcount(camp->members & ~list);
-}
-
-static unsigned liars_that_say(uint64_t row, struct liars liars)
-{
-    unsigned places = 0;
-    FOR_EACH(j, liars.heard)
-        places += row_at(liars.at + j * liars.stride) == row;
-    return places;
-}
-
-/* Step 3 for one box and leader. A row that no camp says needs enough liars for itself. */
-static uint64_t vote(const struct run *run, const struct camps *camps, unsigned i, struct liars liars)
-{
-    for (const struct camp *camp = camps->camp; camp != camps->camp + camps->count; camp++) {
-        unsigned places = heard_of(camp, run->list[i]);
-        if (places + run->faulty_count < run->to_vote)
+    struct found best = {0, 0};
+    uint64_t last = 0;
+    const uint64_t *end = rows + places, *stop = places > least ? end - least : rows;
+    for (; rows < stop; rows++) {
+        if (*rows == 0 || *rows == last || *rows == best.row)
             continue;
-        if (places < run->to_vote)
-            places += liars_that_say(camp->row, liars);
-        if (places >= run->to_vote)
-            return camp->row;
+        last = *rows;
+        unsigned found = places_of_first(rows, (unsigned)(end - rows));
+        if (!is_before(found, last, best))
+            continue;
+        best = (struct found){last, found};
+        if (stop > end - found + 1)
+            stop = end - found + 1;
     }
-    if (run->faulty_count < run->to_vote)
-        return 0;
-    FOR_EACH(j, liars.heard) {
-        uint64_t row = row_at(liars.at + j * liars.stride);
-        if (row != 0 && liars_that_say(row, liars) >= run->to_vote)
-            return row;
+    return best;
+}
+
+/* The row that stands so many times, or 0. That is more than half of the places, so there is one at most. */
+static uint64_t row_that_stands(const uint64_t *rows, unsigned places, unsigned times)
+{
+    uint64_t last = 0;
+    const uint64_t *end = rows + places, *stop = places >= times ? end - times + 1 : rows;
+    for (; rows < stop; rows++) {
+        if (*rows == 0 || *rows == last)
+            continue;
+        last = *rows;
+        if (places_of_first(rows, (unsigned)(end - rows)) >= times)
+            return last;
     }
     return 0;
 }
 
-/* Rows of liars alone. One that a camp says too has been counted with its camp, and not fewer times. */
-static void grade_liars(struct liars liars, struct found *best)
+/* Whom box i hears. `part` is the table's part for step 2 or 3. */
+static void hear(const struct run *run, unsigned i, const uint8_t *part, unsigned to_answer, struct hearing *hearing)
 {
-    FOR_EACH(j, liars.heard) {
-        uint64_t row = row_at(liars.at + j * liars.stride);
-        unsigned places = liars_that_say(row, liars);
-        if (row != 0 && is_before(places, row, *best))
-            *best = (struct found){row, places};
-    }
+    size_t to_one = (size_t)ROW_BYTES * run->n, to_all = to_one * run->n;
+    hearing->sound = run->sound & ~run->list[i];
+    hearing->to_answer = hearing->sound == run->sound && run->sound_count >= to_answer ? to_answer : 0;
+    hearing->liars = 0;
+    FOR_EACH(j, run->faulty & ~run->list[i])
+        hearing->from[hearing->liars++] = part + j * to_all + i * to_one;
 }
 
-/* Step 4 for one box and leader. Rows that cannot stand more than t times are passed over: they give nothing. */
-static struct found grade(const struct run *run, const struct camps *camps, unsigned i, struct liars liars)
+/* The whole column of leader k, of which the sound boxes' part is there: puts behind it what liars say, and gives its
+   length. A box that does not hear all sound boxes, as may be where more than t are faulty, has its own column. */
+static unsigned complete(const struct run *run, const struct hearing *hearing, unsigned k, uint64_t **said,
+                         uint64_t *room)
 {
-    struct found best = {0, 0};
-    for (const struct camp *camp = camps->camp; camp != camps->camp + camps->count; camp++) {
-        unsigned places = heard_of(camp, run->list[i]);
-        if (places + run->faulty_count <= run->t)
-            continue;
-        if (places >= run->to_be_sure)
-            return (struct found){camp->row, places};
-        places += liars_that_say(camp->row, liars);
-        if (is_before(places, camp->row, best))
-            best = (struct found){camp->row, places};
+    unsigned places = run->sound_count;
+    if (hearing->sound != run->sound) {
+        const uint64_t *next = *said;
+        *said = room;
+        places = 0;
+        FOR_EACH(j, run->sound) {
+            room[places] = *next++;
+            places += (hearing->sound >> j) & 1;
+        }
     }
-    if (run->faulty_count > run->t)
-        grade_liars(liars, &best);
-    return best;
+    for (unsigned liar = 0; liar < hearing->liars; liar++)
+        (*said)[places++] = row_at(hearing->from[liar] + ROW_BYTES * k);
+    return places;
 }
 
-/* Step 1: what the sound boxes hear from leader k. */
-static void hear_leader(const struct run *run, unsigned k, const uint8_t *table, struct camps *heard)
+/* Steps 3 and 4 for one box and leader where the sound boxes' part of the column gives no answer. */
+static SELDOM uint64_t vote_over(const struct run *run, const struct hearing *hearing, unsigned k, uint64_t *said)
 {
-    if ((run->sound >> k) & 1) {
-        one_camp(heard, run->row[k], run->ears[k], (unsigned)__builtin_popcount(run->ears[k]));
-        return;
-    }
-    const uint8_t *part = table + ROW_BYTES * k * run->n;
-    heard->count = heard->all = 0;
-    FOR_EACH(i, run->ears[k]) {
-        uint64_t row = row_at(part + ROW_BYTES * i);
-        if (row != 0)
-            join_camp(heard, row, i);
-    }
+    column room;
+    unsigned places = complete(run, hearing, k, &said, room);
+    return row_that_stands(said, places, run->to_vote);
 }
 
-/* `part` is the table's part for step 2 or 3. */
-static struct liars liars_of(const struct run *run, const uint8_t *part, unsigned i, unsigned k)
+static SELDOM struct found grade_over(const struct run *run, const struct hearing *hearing, unsigned k, uint64_t *said)
 {
-    return (struct liars){run->faulty & ~run->list[i], part + ROW_BYTES * (i * run->n + k),
-                          (size_t)ROW_BYTES * run->n * run->n};
+    column room;
+    unsigned places = complete(run, hearing, k, &said, room);
+    return most_often(said, places, run->t);
 }
 
-static void vote_all(const struct run *run, unsigned k, const uint8_t *part, const struct camps *heard,
-                     struct camps *votes)
+/* Step 1: what the sound boxes hear from leader k, and in how many places that is not 0. */
+static unsigned hear_leader(const struct run *run, unsigned k, const uint8_t *table, uint64_t *heard)
 {
-    votes->count = votes->all = 0;
-    if (heard->all + run->faulty_count < run->to_vote)
-        return;
-    if (is_common(run, heard) && heard->all >= run->to_vote) {
-        one_camp(votes, heard->camp[0].row, run->sound, run->sound_count);
-        return;
+    int faulty = (run->faulty >> k) & 1;
+    const uint8_t *from = table + ROW_BYTES * k * run->n;
+    unsigned rows = 0;
+    if (!faulty && !((run->listed >> k) & 1)) {
+        for (unsigned place = 0; place < run->sound_count; place++)
+            heard[place] = run->row[k];
+        return run->sound_count;
     }
     FOR_EACH(i, run->sound) {
-        uint64_t row = vote(run, heard, i, liars_of(run, part, i, k));
-        if (row != 0)
-            join_camp(votes, row, i);
+        uint64_t row = faulty ? row_at(from + ROW_BYTES * i) : run->row[k];
+        *heard = (run->list[i] >> k) & 1 ? 0 : row;
+        rows += *heard++ != 0;
     }
+    return rows;
 }
 
-/* All boxes hold this row for one leader more. */
-static void share(struct tally *shared, uint64_t row)
+/* Step 3 for box i, whose votes stand at `place` of each column. Gives how many of them are not 0. */
+static unsigned vote_all(const struct run *run, unsigned i, const uint8_t *part, column *heard, column *votes,
+                         unsigned place)
 {
-    unsigned at = 0;
-    while (at < shared->count && shared->row[at] != row)
-        at++;
-    if (at == shared->count) {
-        shared->row[shared->count++] = row;
-        shared->places[at] = 0;
+    struct hearing hearing;
+    unsigned rows = 0;
+    hear(run, i, part, run->to_vote, &hearing);
+    for (unsigned k = 0; k < run->n; k++) {
+        uint64_t row = common_row(heard[k], hearing.to_answer);
+        if (row == 0)
+            row = vote_over(run, &hearing, k, heard[k]);
+        votes[k][place] = row;
+        rows += row != 0;
     }
-    shared->places[at]++;
+    return rows;
 }
 
-static void list_leader(struct run *run, unsigned i, unsigned k)
+/* Steps 4 and 5 for box i. */
+static void finish_box(struct run *run, unsigned i, const uint8_t *part, column *votes)
 {
-    run->joining[i] |= 1u << k;
-    run->ears[k] &= ~(1u << i);
+    struct hearing hearing;
+    uint64_t held[MOST_BOXES];
+    unsigned count = 0;
+    hear(run, i, part, run->to_be_sure, &hearing);
+    for (unsigned k = 0; k < run->n; k++) {
+        held[count] = common_row(votes[k], hearing.to_answer);
+        if (held[count] == 0) {
+            struct found found = grade_over(run, &hearing, k, votes[k]);
+            if (found.places <= 2 * run->t)
+                run->list[i] |= 1u << k;
+            if (found.places <= run->t)
+                continue;
+            held[count] = found.row;
+        }
+        count++;
+    }
+    if (count != 0)
+        run->row[i] = most_often(held, count, 0).row;
 }
 
-static void grade_all(struct run *run, unsigned k, const uint8_t *part, const struct camps *votes)
-{
-    if (is_common(run, votes) && votes->all >= run->to_be_sure) {
-        share(&run->shared, votes->camp[0].row);
-        return;
-    }
-    if (votes->all + run->faulty_count <= run->t) {
-        FOR_EACH(i, run->ears[k])
-            list_leader(run, i, k);
-        return;
-    }
-    FOR_EACH(i, run->sound) {
-        struct found found = grade(run, votes, i, liars_of(run, part, i, k));
-        if (found.places <= 2 * run->t)
-            list_leader(run, i, k);
-        if (found.places > run->t)
-            run->own[i][run->own_count[i]++] = found.row;
-    }
-}
-
-/* The row that most leaders share, with its leaders; no row where none is shared. */
-static struct found most_shared(const struct tally *shared)
-{
-    struct found best = {0, 0};
-    for (unsigned at = 0; at < shared->count; at++)
-        if (is_before(shared->places[at], shared->row[at], best))
-            best = (struct found){shared->row[at], shared->places[at]};
-    return best;
-}
-
-/* Step 5. Only a row of the box's own can come before the one that most leaders share. */
-static void choose(struct run *run, unsigned i, struct found best)
-{
-    const uint64_t *own = run->own[i], *end = own + run->own_count[i];
-    for (const uint64_t *row = own; row != end; row++) {
-        unsigned places = 0;
-        for (unsigned at = 0; at < run->shared.count; at++)
-            if (run->shared.row[at] == *row)
-                places = run->shared.places[at];
-        for (const uint64_t *other = own; other != end; other++)
-            places += *other == *row;
-        if (is_before(places, *row, best))
-            best = (struct found){*row, places};
-    }
-    if (best.row != 0)
-        run->row[i] = best.row;
-    run->own_count[i] = 0;
-}
-
+/* Once step 1 is over nobody but box i reads its row and list, so it is finished before the next box grades. */
 static void iterate(struct run *run, const uint8_t *table)
 {
-    unsigned n = run->n;
+    unsigned n = run->n, place = 0;
     const uint8_t *second = table + ROW_BYTES * n * n, *third = second + ROW_BYTES * n * n * n;
     uint64_t rows = run->sound_count;
-    struct camps heard, votes;
-    run->shared.count = 0;
-    for (unsigned k = 0; k < n; k++) {
-        if ((run->trusted >> k) & 1) {
-            rows += 2 * run->sound_count;
-            share(&run->shared, run->row[k]);
-            continue;
-        }
-        hear_leader(run, k, table, &heard);
-        vote_all(run, k, second, &heard, &votes);
-        grade_all(run, k, third, &votes);
-        rows += heard.all + votes.all;
-    }
-    struct found best = most_shared(&run->shared);
+    column heard[MOST_BOXES], votes[MOST_BOXES];
+    for (unsigned k = 0; k < n; k++)
+        rows += hear_leader(run, k, table, heard[k]);
+    FOR_EACH(i, run->sound)
+        rows += vote_all(run, i, second, heard, votes, place++);
     FOR_EACH(i, run->sound) {
-        choose(run, i, best);
-        run->list[i] |= run->joining[i];
-        run->listed |= run->joining[i];
-        run->joining[i] = 0;
+        finish_box(run, i, third, votes);
+        run->listed |= run->list[i];
     }
     run->sent += n * rows;
     run->done++;
@@ -343,18 +286,14 @@ static unsigned start(struct run *run, size_t size)
     if (size < MARK_BYTES + ROW_BYTES * run->n)
         return 8;
     run->sound = ~run->faulty & ((1u << run->n) - 1);
-    run->faulty_count = (unsigned)__builtin_popcount(run->faulty);
-    run->sound_count = run->n - run->faulty_count;
+    run->sound_count = (unsigned)__builtin_popcount(run->sound);
+    run->to_vote = run->n - run->t;
+    run->to_be_sure = 2 * run->t + 1 > run->n / 2 ? 2 * run->t + 1 : run->n / 2 + 1;
     run->done = run->listed = 0;
     run->sent = 0;
-    run->to_vote = run->n - run->t;
-    /* With at most t faulty the sound are enough for every vote and grade of a sound leader, so nobody lists one. */
-    run->trusted = run->faulty_count <= run->t ? run->sound : 0;
-    run->to_be_sure = 2 * run->t + 1 > run->n / 2 ? 2 * run->t + 1 : run->n / 2 + 1;
     for (unsigned i = 0; i < run->n; i++) {
         run->row[i] = row_at(file + MARK_BYTES + ROW_BYTES * i);
-        run->list[i] = run->joining[i] = run->own_count[i] = 0;
-        run->ears[i] = run->sound;
+        run->list[i] = 0;
         if (run->row[i] == 0 && (run->sound >> i) & 1)
             return 9;
     }

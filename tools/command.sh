@@ -1,0 +1,68 @@
+# What the commands at the root share. Each reads this in after it has set `top`, the repository's folder, and
+# `called`, its own name. Whatever fails here is one line on standard error and status 2.
+# shellcheck shell=sh
+# shellcheck disable=SC2034,SC2154
+
+newline='
+'
+
+# Where standard error is closed, the next file that is opened must not take its place.
+true 3>&2 || exec 2>/dev/null
+
+fail() {
+    printf '%s: %s\n' "$called" "$1" >&2
+    exit 2
+}
+
+# A file's name as it can stand in one line.
+shown() {
+    printf '%s' "$1" | LC_ALL=C tr '[:cntrl:]' '[?*]'
+}
+
+# open_input FILE: from here on standard input is that file. It is opened only once, since it may be a pipe.
+open_input() {
+    if ! { command exec <"$1"; } 2>/dev/null; then
+        [ -e "$1" ] || fail "cannot open $(shown "$1"): there is no such file"
+        fail "cannot open $(shown "$1")"
+    fi
+}
+
+# check_streams NAME: can standard input, which is called NAME, be read, and standard output be written? A closed
+# standard input counts as an empty one.
+check_streams() {
+    { true 3<&0; } 2>/dev/null || exec </dev/null
+    [ ! -d /dev/stdin ] || fail "cannot read $(shown "$1"): it is a folder"
+    { true 3>&1; } 2>/dev/null || fail "cannot write to standard output: it is closed"
+}
+
+# keep_text NAME: runs the program crates/NAME and keeps what it prints in `text`, and in `last` its last line, which
+# is empty where the text does not end with a newline. A mark behind the text saves the newlines at its end. The shell
+# has another standard error meanwhile: of a program that a signal ended it would speak too.
+keep_text() {
+    text=$(
+        exec 3>&2 2>/dev/null
+        (exec "$top/tools/run-program" "$1" 2>&3 3>&-)
+        status=$?
+        printf .
+        exit "$status"
+    )
+    status=$?
+    text=${text%.} last=
+    case $text in
+    *"$newline")
+        last=${text%"$newline"}
+        last=${last##*"$newline"}
+        ;;
+    esac
+    case $status in
+    0) ;;
+    2 | 126 | 127) exit 2 ;; # it could not be started, and the reason is told already
+    *) fail "the program ended with status $status" ;;
+    esac
+}
+
+# print_text TEXT: a reader that has gone away is a failed write like any other.
+print_text() {
+    trap '' PIPE
+    printf '%s' "$1" 2>/dev/null || fail "cannot write to standard output"
+}
