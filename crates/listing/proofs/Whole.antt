@@ -7,10 +7,10 @@ use mathlib.Core.List.{List, [], _++_}
 use Prim.Native.Nat.{ℕ, _+_, _*_, _≤_, _<_}
 use native.Mathlib.Nat.{le-refl}
 use native.Mathlib.Omega.{arith}
-use lib.Dec.{eqb}
+use lib.Dec.{eqb, ltb}
 use lib.ListN.{length, take, drop}
 use lib.Seq.{take-at, take-all}
-use borrow.Author.Tests.{eq-eqb, ne-eqb, lt-ltb, le-ltb}
+use borrow.Author.Tests.{eq-eqb, ne-eqb, lt-ltb, le-ltb, ltb-false}
 use Rattle.counting.proofs.Bools.{cond-true, cond-false}
 use Rattle.run.specs.declared.Run.{Run}
 use Rattle.run.specs.declared.Next.{Next}
@@ -85,6 +85,15 @@ module _ (bytes : List ℕ) where
       record { refusal = 10; size = 0; ends = 0 } ≡ listReply bytes room
   unfolding listReply
   list-refused room l = sym (cond-true _ _ (lt-ltb _ _ l))
+
+  -- what is written lies within the slice
+  pub list-within : (room : ℕ) → listReply bytes room .size ≤ room
+  unfolding listReply
+  list-within room = go (ltb room (length (listingOf bytes))) refl
+    where
+      go : (b : Bool) → ltb room (length (listingOf bytes)) ≡ b → listReply bytes room .size ≤ room
+      go true e = rw e (omega arith)
+      go false e = rw e (ltb-false _ _ e)
 
   pub list-leaves : (slice : List ℕ) → length slice < length (listingOf bytes) → slice ≡ listWrites bytes slice
   unfolding listWrites
