@@ -5,3 +5,4 @@ pub mod Heading
 pub mod Table
 pub mod Iterations
 pub mod Whole
+pub mod Alike

@@ -1,3 +1,4 @@
 pub mod File
 pub mod Listing
+pub mod Files
 pub mod Inside

@@ -1,0 +1,31 @@
+-- What is promised of whole files: which files are listed alike, and demand 3 of a file.
+use Prim.Native.Nat.{ℕ, _<_}
+use mathlib.Core.Path.{_≡_}
+use mathlib.Core.List.{List}
+use lib.ListN.{length, getD}
+use Rattle.gradecast.specs.Lies.{SameLies}
+use Rattle.gradecast.specs.Fair.{NoSoundListed}
+use Rattle.agreement.specs.Demand.{AllHold, SameRow}
+use Rattle.runfile.specs.File.{headingBytes}
+use Rattle.listing.specs.File.{heading, rowsOf, bytesOf, tableOf, due}
+use Rattle.listing.specs.Listing.{outcomeOf}
+
+-- the bytes of a file that matter: as many as the largest file has, and one that shows that a file goes on
+abbrev pub enough : ℕ
+enough = 182634
+
+-- two files that differ only in sound senders' places: as long, the same heading, and in each table the same rows of faulty senders
+pub record SameButSound (a b : List ℕ) : Type 0 where
+  pub same-length : length a ≡ length b
+  pub same-heading : heading a ≡ heading b
+  pub same-rows : rowsOf a ≡ rowsOf b
+  pub same-lies : (m : ℕ) → m < due a →
+      SameLies (heading a .n) (heading a .faulty) (tableOf (heading a .n) a m) (tableOf (heading a .n) b m)
+
+-- demand 3 of a file: in the outcome's state all sound boxes hold the same row, a common start stays, and no sound box is on a sound
+-- box's list
+pub record Demand3Of (bytes : List ℕ) : Type 0 where
+  pub agrees : SameRow (heading bytes .n) (heading bytes .faulty) (outcomeOf bytes .run .rows)
+  pub valid : (v : ℕ) → AllHold (heading bytes .n) (heading bytes .faulty) (rowsOf bytes) v →
+      AllHold (heading bytes .n) (heading bytes .faulty) (outcomeOf bytes .run .rows) v
+  pub unlisted : NoSoundListed (heading bytes .n) (heading bytes .faulty) (outcomeOf bytes .run .lists)
