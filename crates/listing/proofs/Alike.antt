@@ -5,7 +5,7 @@
 use mathlib.Core.Path.{_≡_, refl, sym, ap, ap₂, subst, _∙_}
 use mathlib.Core.Bool.{Bool, true, false, cond, _&&_}
 use mathlib.Core.List.{List, [], _++_}
-use Prim.Native.Nat.{ℕ, zero, suc, _+_, _≤_, _<_}
+use Prim.Native.Nat.{ℕ, zero, suc, _+_, _-_, _≤_, _<_, min}
 use native.Mathlib.Nat.{le-refl}
 use native.Mathlib.Decide.{ℕ-discrete}
 use native.Mathlib.Omega.{arith}
@@ -178,3 +178,39 @@ module _ (a b : List ℕ) (s : Alike a b) where
   unfolding listingOf
   alike-listing =
       ap₂ (λ (xs : List ℕ) (r : Next). xs ++ lastLine (r .refusal) (r .run .sent)) first-alike alike-outcome
+
+-- a table is refused by how many bytes it has
+refusal-same : (n : ℕ) (xs ys : List ℕ) (room : ℕ) → length xs ≡ length ys → tableRefusal n xs room ≡ tableRefusal n ys room
+unfolding tableRefusal tableTests
+refusal-same n xs ys room e = rw e refl
+
+-- two files that differ only in sound senders' places
+module _ (a b : List ℕ) (s : SameButSound a b) where
+  table-same : (m : ℕ) → length (bytesOf (heading a .n) a m) ≡ length (bytesOf (heading a .n) b m)
+  unfolding bytesOf
+  table-same m =
+      let at = tableBegins (heading a .n) m in
+      let left : length (drop at a) ≡ length (drop at b) =
+      length-drop at a ∙ ap (λ (k : ℕ). k - at) (s .same-length) ∙ sym (length-drop at b) in
+      length-take (tableBytes (heading a .n)) (drop at a)
+      ∙ ap (min (tableBytes (heading a .n))) left
+      ∙ sym (length-take (tableBytes (heading a .n)) (drop at b))
+
+  alike : Alike a b
+  unfolding goesOn due
+  alike =
+      record {
+        headings = s .same-heading;
+        rows = s .same-rows;
+        refusals = λ ok m l. refusal-same (heading a .n) _ _ 4563 (table-same m);
+        lies = λ ok m l. s .same-lies m l;
+        ends =
+            λ ok.
+            ap₂ (λ (h : Heading) (k : ℕ). ltb (tableBegins (h .n) (h .t + 1)) k) (s .same-heading) (s .same-length);
+      }
+
+  pub listing-blind : listingOf a ≡ listingOf b
+  listing-blind = alike-listing a b alike
+
+  pub outcome-blind : outcomeOf a ≡ outcomeOf b
+  outcome-blind = alike-outcome a b alike

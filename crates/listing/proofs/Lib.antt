@@ -6,3 +6,5 @@ pub mod Table
 pub mod Iterations
 pub mod Whole
 pub mod Alike
+pub mod Prefix
+pub mod Taken
