@@ -35,6 +35,9 @@ ghost use Rattle.listing.specs.Listing.{
   listWrites,
 };
 
+// Enough for any listing by the widths of its numbers alone: 18 bytes for the line `run`, 37 for each of 65 lines `at`, 26 for the last.
+const TEXT_BYTES: usize = 2449;
+
 // The reply of a listing: the refusal's number, or 0 with the number of bytes written and the refusal with which the listing ends,
 // 0 where it ends with `sent`.
 pub struct Listed {
@@ -259,7 +262,7 @@ pub fn list(bytes: &[u8], out: &mut [u8]) -> Listed
     ensures { λ r. ⌜ r ≡ listReply (now (bytes .entry)) (length (now (out .entry))) ⌝ }
     ensures { λ r. ⌜ now (out .exit) ≡ listWrites (now (bytes .entry)) (now (out .entry)) ⌝ }
 {
-    let mut text = [0u8; 2449];
+    let mut text = [0u8; TEXT_BYTES];
     let told = tell(bytes, &mut text);
     let size = told.size;
     if out.len() < size {
@@ -282,7 +285,7 @@ pub fn list(bytes: &[u8], out: &mut [u8]) -> Listed
 pub fn outcome(bytes: &[u8]) -> Next
     ensures { λ r. ⌜ r ≡ outcomeOf (now (bytes .entry)) ⌝ }
 {
-    let mut text = [0u8; 2449];
+    let mut text = [0u8; TEXT_BYTES];
     let told = tell(bytes, &mut text);
     told.last
 }

@@ -15,12 +15,19 @@ use Rattle.tally.proofs.Laws.{never-1}
 use Rattle.gradecast.specs.Steps.{place1, placeFrom, place2, place3, sends, hears, heard1, heard2, column2, voted, heard3, column3, confidence, gradeRow, sentTo, messages}
 use Rattle.run.specs.Iteration.{entry, gradedRows, confidences, newRow, newList, nextRun}
 use Rattle.run.specs.State.{startRow, startRefusal, startRun, startReply, badEntry, badPlace, tooManySent, iterateRefusal, iterateReply, after}
+use Rattle.sizes.specs.Sizes.{largestT}
+use Rattle.runfile.specs.File.{number, marked as is-marked, versionOf, nOf, tByte, faultyOf, tOf, headingBytes, rowFrom, headingRow, tableRow}
+use Rattle.runfile.specs.Reply.{headingTests, headingRefusal, headingOf, nothingRead, headingReply, tableTests, tableRefusal}
+use Rattle.lines.specs.Line.{tens, decimal, field, fields, lineOf}
+use Rattle.listing.specs.File.{orElse, tableBytes, tableBegins, bytesOf, tableOf, refusedTable, heading, rowsOf, replyAfter, stateAfter, refusedStart, refusedAt, due, goesOn}
+use Rattle.listing.specs.Listing.{runLine, atLine, lastLine, boxLine, boxLines, endedBy, passed, doneOf, iterationLines, refusedLater, endsWith, startLine, firstLines, outcomeOf, listingOf}
+use Rattle.run.specs.State.{zeros}
 use Rattle.marked.specs.Cases.{Hold, marked}
 
 pub marked-hold : Hold marked
-unfolding sum count any build find member setOf places support before best most firstOf outside tooMany stray sound soundZero tableRows carried voteOf twoRows supportOf confidenceAt confidenceOf gradedRow counted chosenRow voteRefusal sizeRefusal unless voteReply gradeReply place1 placeFrom place2 place3 sends hears heard1 heard2 column2 voted heard3 column3 confidence gradeRow sentTo messages entry gradedRows confidences newRow newList nextRun startRow startRefusal startRun startReply badEntry badPlace tooManySent iterateRefusal iterateReply after
+unfolding sum count any build find member setOf places support before best most firstOf outside tooMany stray sound soundZero tableRows carried voteOf twoRows supportOf confidenceAt confidenceOf gradedRow counted chosenRow voteRefusal sizeRefusal unless voteReply gradeReply place1 placeFrom place2 place3 sends hears heard1 heard2 column2 voted heard3 column3 confidence gradeRow sentTo messages entry gradedRows confidences newRow newList nextRun startRow startRefusal startRun startReply badEntry badPlace tooManySent iterateRefusal iterateReply after largestT number is-marked versionOf nOf tByte faultyOf tOf headingBytes rowFrom headingRow tableRow headingTests headingRefusal headingOf nothingRead headingReply tableTests tableRefusal tens decimal field fields lineOf orElse tableBytes tableBegins bytesOf tableOf refusedTable heading rowsOf replyAfter stateAfter refusedStart refusedAt due goesOn runLine atLine lastLine boxLine boxLines endedBy passed doneOf iterationLines refusedLater endsWith startLine firstLines outcomeOf listingOf zeros
 marked-hold =
-    (refl, (refl, (refl, (refl, (refl, (refl, (refl, (refl, (refl, (refl, (refl, (refl, (refl, (refl, (refl, (refl, (refl, (refl, tt))))))))))))))))))
+    (refl, (refl, (refl, (refl, (refl, (refl, (refl, (refl, (refl, (refl, (refl, (refl, (refl, (refl, (refl, (refl, (refl, (refl, (refl, tt)))))))))))))))))))
 
 pub confidence-1-needs-t : (xs : List ℕ) → confidenceOf 0 xs ≡ 1 → ⊥
 confidence-1-needs-t xs = never-1 xs

@@ -10,6 +10,7 @@ use Rattle.gradecast.specs.Lies.{silent}
 use Rattle.run.specs.declared.Run.{Run}
 use Rattle.run.specs.declared.Next.{Next}
 use Rattle.run.specs.State.{startReply, after}
+use Rattle.listing.specs.Listing.{listingOf}
 
 -- a case: the numbers that the definitions give, and the numbers of the document
 pub data Case : Type 0 where
@@ -52,6 +53,31 @@ tablesOfS (suc m) = silent 4
 abbrev pub caseS : ℕ → Next
 caseS = after (startReply 4 1 8 (10 ∷ 20 ∷ 30 ∷ 0 ∷ [])) tablesOfS
 
+-- rows below 256 in bytes, eight for each
+abbrev pub inBytes : List ℕ → List ℕ
+inBytes [] = []
+inBytes (row ∷ rows) = 0 ∷ 0 ∷ 0 ∷ 0 ∷ 0 ∷ 0 ∷ 0 ∷ row ∷ inBytes rows
+
+-- case S as a run file: HNB, version 1, n = 4, t = 1, box 4 faulty, the rows, and the two tables
+abbrev pub fileOfS : List ℕ
+fileOfS =
+    72 ∷ 78 ∷ 66 ∷ 0 ∷ 1 ∷ 4 ∷ 1 ∷ 0 ∷ 8 ∷
+    inBytes (10 ∷ 20 ∷ 30 ∷ 0 ∷ []) ++ (inBytes liesOfS ++ inBytes (silent 4))
+
+-- the eight lines of case S, as the document prints them: run 4 1 8; at 1 1 10 8; at 1 2 20 8; at 1 3 10 8; at 2 1 10 8;
+-- at 2 2 10 8; at 2 3 10 8; sent 184
+abbrev pub linesOfS : List ℕ
+linesOfS =
+    114 ∷ 117 ∷ 110 ∷ 32 ∷ 52 ∷ 32 ∷ 49 ∷ 32 ∷ 56 ∷ 10 ∷
+    97 ∷ 116 ∷ 32 ∷ 49 ∷ 32 ∷ 49 ∷ 32 ∷ 49 ∷ 48 ∷ 32 ∷ 56 ∷ 10 ∷
+    97 ∷ 116 ∷ 32 ∷ 49 ∷ 32 ∷ 50 ∷ 32 ∷ 50 ∷ 48 ∷ 32 ∷ 56 ∷ 10 ∷
+    97 ∷ 116 ∷ 32 ∷ 49 ∷ 32 ∷ 51 ∷ 32 ∷ 49 ∷ 48 ∷ 32 ∷ 56 ∷ 10 ∷
+    97 ∷ 116 ∷ 32 ∷ 50 ∷ 32 ∷ 49 ∷ 32 ∷ 49 ∷ 48 ∷ 32 ∷ 56 ∷ 10 ∷
+    97 ∷ 116 ∷ 32 ∷ 50 ∷ 32 ∷ 50 ∷ 32 ∷ 49 ∷ 48 ∷ 32 ∷ 56 ∷ 10 ∷
+    97 ∷ 116 ∷ 32 ∷ 50 ∷ 32 ∷ 51 ∷ 32 ∷ 49 ∷ 48 ∷ 32 ∷ 56 ∷ 10 ∷
+    115 ∷ 101 ∷ 110 ∷ 116 ∷ 32 ∷ 49 ∷ 56 ∷ 52 ∷ 10 ∷
+    []
+
 -- a run with boxes that say nothing in the faulty places
 abbrev pub quiet : ℕ → ℕ → ℕ → List ℕ → ℕ → Next
 quiet n t faulty rows = after (startReply n t faulty rows) (λ m. silent n)
@@ -77,6 +103,8 @@ marked =
     Case.gives (graded (caseS 0 .run) liesOfS 1 3) (20 ∷ 1 ∷ []) ∷
     Case.gives (graded (caseS 0 .run) liesOfS 0 3) (0 ∷ 0 ∷ []) ∷
     Case.gives (graded (caseS 0 .run) liesOfS 2 3) (0 ∷ 0 ∷ []) ∷
+    -- the whole listing of its file
+    Case.gives (listingOf fileOfS) linesOfS ∷
     -- rows 50, 50, 50, box 4 silent: 84 and 84 messages
     Case.gives (shown (quiet 4 1 8 (50 ∷ 50 ∷ 50 ∷ 0 ∷ []) 1)) (0 ∷ 84 ∷ 50 ∷ 50 ∷ 50 ∷ 0 ∷ 8 ∷ 8 ∷ 8 ∷ 0 ∷ []) ∷
     Case.gives (shown (quiet 4 1 8 (50 ∷ 50 ∷ 50 ∷ 0 ∷ []) 2)) (0 ∷ 168 ∷ 50 ∷ 50 ∷ 50 ∷ 0 ∷ 8 ∷ 8 ∷ 8 ∷ 0 ∷ []) ∷

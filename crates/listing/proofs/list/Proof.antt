@@ -11,6 +11,7 @@ use Rattle.listing.proofs.Whole.{outcome-ends, list-refused, list-leave
 use borrow.Author.Needs.{needs}
 use Rattle.listing.proofs.list.Statement.{statement}
 use Rattle.listing.proofs.list.Tie as tie
+use Rattle.listing.proofs.list.Reads as Reads
 
 abbrev bytes-of : tie.After-tell → List ℕ
 bytes-of c = c .before .before .before .before .args .bytes .now
@@ -78,3 +79,8 @@ list-spec =
     copy-requires
     same-length
     returns-2)
+
+-- the contract admits one reply, and one last contents of the slice
+pub only-one : (κs : _) (a : _) (r s : _) (x y : _) → Reads.Post κs a r x → Reads.Post κs a s y →
+    (r ≡ s) × (x .1 .0 .now ≡ y .1 .0 .now)
+only-one κs a r s x y p q = (p .0 ∙ sym (q .0), p .1 ∙ sym (q .1))
