@@ -1,6 +1,7 @@
--- Rows stay as small as what they are made of: a row that is sent, heard, voted for, graded or chosen is a row of the state, a row
--- of the table or 0, so a bound that all of those lie below holds of the next state, and of a whole run. And what a legal state's
--- other numbers can be: a list is a set of boxes below n, and the messages are at most a whole table's in each iteration done.
+-- Rows stay as small as what they are made of: a row that is sent, heard, voted for, graded or chosen is one of the
+-- state, one of the table, or 0. So a bound that those lie below holds of the next state, and of a whole run. And what
+-- the other numbers of a legal state can be: a list is a set of boxes below n, and each iteration done sent at most
+-- a whole table.
 -- Assumes nothing.
 use mathlib.Core.Path.{_∙_}
 use mathlib.Core.Bool.{Bool, true, false, cond, _&&_}
@@ -86,7 +87,8 @@ module _ (bound : ℕ) (some : 0 < bound) where
     unfolding voted voteOf column2
     voted-below i k =
         find-below _ _ _
-        (build-below (s .n) (λ j. heard2 (s .n) (s .faulty) (s .rows) (s .lists) table i j k) (λ j. heard2-below i j k))
+        (build-below (s .n) (λ j. heard2 (s .n) (s .faulty) (s .rows) (s .lists) table i j k)
+        (λ j. heard2-below i j k))
 
     heard3-below : (i j k : ℕ) → heard3 (s .n) (s .t) (s .faulty) (s .rows) (s .lists) table i j k < bound
     unfolding heard3
@@ -98,12 +100,14 @@ module _ (bound : ℕ) (some : 0 < bound) where
         let column = column3 (s .n) (s .t) (s .faulty) (s .rows) (s .lists) table i k in
         cond-below (eqb (confidenceOf (s .t) column) 0) some
         (most-below column
-        (build-below (s .n) (λ j. heard3 (s .n) (s .t) (s .faulty) (s .rows) (s .lists) table i j k) (λ j. heard3-below i j k)))
+        (build-below (s .n) (λ j. heard3 (s .n) (s .t) (s .faulty) (s .rows) (s .lists) table i j k)
+        (λ j. heard3-below i j k)))
 
     chosen-below : (i : ℕ) → chosenRow (gradedRows s table i) (confidences s table i) < bound
     unfolding chosenRow counted gradedRows
     chosen-below i =
-        let rows = build-below (s .n) (gradeRow (s .n) (s .t) (s .faulty) (s .rows) (s .lists) table i) (grade-below i) in
+        let graded = gradeRow (s .n) (s .t) (s .faulty) (s .rows) (s .lists) table i in
+        let rows = build-below (s .n) graded (grade-below i) in
         most-below (counted (gradedRows s table i) (confidences s table i))
         (build-below (length (gradedRows s table i))
         (λ k. cond (eqb (getD (confidences s table i) k 0) 0) 0 (getD (gradedRows s table i) k 0))
@@ -131,8 +135,8 @@ module _ (bound : ℕ) (some : 0 < bound) where
   unfolding startRun startRow
   start-below n t faulty rows h = entry-below n faulty (λ k. getD rows k 0) h
 
-  pub after-below : (first : Next) (tables : ℕ → List ℕ) → Below bound (first .run .rows) → ((m : ℕ) → Below bound (tables m)) →
-      (m : ℕ) → Below bound (after first tables m .run .rows)
+  pub after-below : (first : Next) (tables : ℕ → List ℕ) → Below bound (first .run .rows) →
+      ((m : ℕ) → Below bound (tables m)) → (m : ℕ) → Below bound (after first tables m .run .rows)
   unfolding after
   after-below first tables h l zero = h
   after-below first tables h l (suc m) =
@@ -149,9 +153,9 @@ module _ (s : Run) (legal : Legal s) where
       (bad-box (s .n) (s .faulty) k (getD (s .rows) k 0) (getD (s .lists) k 0) (is-box b)
       ∙ any-none 13 (badPlace s) (legal .pass14-places) k (omega arith))
 
-  pub sent-below : s .sent ≤ s .done * 4563
+  pub sent-most : s .sent ≤ s .done * 4563
   unfolding tooManySent
-  sent-below =
+  sent-most =
       let most = ltb-false (s .done * tableRows (s .n)) (s .sent) (legal .pass14-sent) in
       let whole = mul-le-mul-left (s .done) (table-le (inside-high (s .n) (legal .pass4))) in
       omega arith
