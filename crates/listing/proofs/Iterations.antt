@@ -57,7 +57,7 @@ module _ (f : ℕ → ℕ) where
           (at-or-below m k (omega arith))
 
 -- an iteration that is not refused keeps n and t and is one more done
-iterate-next : (s : Run) (table : List ℕ) → iterateReply s table .refusal ≡ 0 →
+pub iterate-next : (s : Run) (table : List ℕ) → iterateReply s table .refusal ≡ 0 →
     (iterateReply s table .run .n ≡ s .n) × (iterateReply s table .run .t ≡ s .t) × (iterateReply s table .run .done ≡ s .done + 1)
 unfolding iterateReply nextRun
 iterate-next s table e = rw (eq-eqb (iterateRefusal s table) 0 e) (refl, refl, refl)

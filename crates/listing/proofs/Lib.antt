@@ -8,3 +8,4 @@ pub mod Whole
 pub mod Alike
 pub mod Prefix
 pub mod Taken
+pub mod Room

@@ -2,6 +2,7 @@ pub mod Accepted
 pub mod Blind
 pub mod Closed
 pub mod Entries
+pub mod Fits
 pub mod Kept
 pub mod Parts
 pub mod Refusals
