@@ -289,9 +289,9 @@ pub fn read_part(bytes: &[u8], from: usize, count: usize, rows: &mut [u64]) -> u
     ensures { λ r. ⌜ r ≡ partRefusal from count (now (bytes .entry)) (length (now (rows .entry))) ⌝ }
     ensures { λ r. ⌜ now (rows .exit) ≡ partWrites from count (now (bytes .entry)) (now (rows .entry)) ⌝ }
 {
-    let refused = part_refusal(bytes, from, count, rows.len());
-    if refused != 0 {
-        return refused;
+    let number = part_refusal(bytes, from, count, rows.len());
+    if number != 0 {
+        return number;
     }
     let end = from + count;
     write_rows(bytes, 8 * from, count, &mut rows[from..end]);
