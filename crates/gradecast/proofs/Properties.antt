@@ -268,7 +268,7 @@ gradecast {n} {t} {faulty} {rows} {lists} fair table =
           λ i j k si sj none.
           let low = at-most-2 n t faulty rows lists table j k in
           let z : confidence n t faulty rows lists table j k ≡ 2 → ⊥ =
-              λ two. never-none calm rows table j i k sj si two none
+          λ two. never-none calm rows table j i k sj si two none
           in
           omega (arith, z);
       all-listed = all-silent calm rows table;

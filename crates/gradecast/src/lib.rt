@@ -516,7 +516,15 @@ fn all_steps(
     let sent = messages_of(n, faulty, rows, &second, &third);
     let mut graded = [0u64; 169];
     let mut confidences = [0u8; 169];
-    step4(hall, lists, table, &third, &mut heard, &mut graded, &mut confidences);
+    step4(
+        hall,
+        lists,
+        table,
+        &third,
+        &mut heard,
+        &mut graded,
+        &mut confidences,
+    );
     Cast {
         refusal: 0,
         sent,

@@ -1,74 +1,96 @@
+-- `gradecast::all_steps` meets its contract: the cells of step 2 and of step 3 are the document's V and Y, the grades over
+-- them are step 4's, and the messages are counted over the cells. What all boxes go by is worked out before step 1.
+-- Assumes nothing.
+use mathlib.Core.Path.{refl}
+use Rattle.gradecast.specs.Inside.{Prepared}
+use Rattle.gradecast.proofs.Replies.{cast-is}
 use borrow.Author.Needs.{needs}
 use Rattle.gradecast.proofs.all_steps.Statement.{statement}
 use Rattle.gradecast.proofs.all_steps.Tie as tie
-use Rattle.gradecast.proofs.all_steps.Reads as reads
-use Rattle.gradecast.proofs.all_steps.Lts as lts
-use Rattle.gradecast.proofs.asked_leaders.Reads as asked-leaders-reads
-use Rattle.gradecast.proofs.messages_of.Reads as messages-of-reads
-use Rattle.gradecast.proofs.odd_boxes.Reads as odd-boxes-reads
-use Rattle.gradecast.proofs.step1.Reads as step1-reads
-use Rattle.gradecast.proofs.step3.Reads as step3-reads
-use Rattle.gradecast.proofs.step4.Reads as step4-reads
 
--- src/lib.rt:502:9
+-- back from each call to the one before
+abbrev hall-made : tie.After-step1 → tie.After-asked-leaders
+hall-made c = c .before .before
+
+abbrev step1-done : tie.After-third → tie.After-step1
+step1-done c = c .before .before .before .before
+
+abbrev step3-done : tie.After-third3 → tie.After-step3
+step3-done c = c .before .before .before .before
+
+abbrev counted : tie.After-confidences → tie.After-messages-of
+counted c = c .before .before .before .before
+
+-- what all boxes go by is as it must be
+prepared : (c : tie.After-asked-leaders) →
+    let a = c .before .before .before .args in
+    Prepared
+    (record {
+      n = a .n;
+      t = a .t;
+      faulty = a .faulty;
+      odd = c .before .odd-boxes .result;
+      asked = c .asked-leaders .result;
+    })
+    (a .lists .now)
+    (a .table .now)
+prepared c =
+    let p = c .before .before .before .pre in
+    let odd = c .before .odd-boxes .ensures in
+    record { ready = p .0; tolerated = p .1; odd-set = odd; enough = c .asked-leaders .ensures _ odd }
+
 odd-boxes-requires : tie.Need-odd-boxes-requires
 odd-boxes-requires c κs = search needs
 
--- src/lib.rt:503:9
 asked-leaders-requires : tie.Need-asked-leaders-requires
 asked-leaders-requires c κs = search needs
 
--- src/lib.rt:512:42
 slice-aggregate-step1 : tie.Need-slice-aggregate-step1
 slice-aggregate-step1 c = search needs
 
--- src/lib.rt:512:5
 step1-requires : tie.Need-step1-requires
 step1-requires c κs = search needs
 
--- src/lib.rt:515:40
 slice-aggregate-step3 : tie.Need-slice-aggregate-step3
 slice-aggregate-step3 c = search needs
 
--- src/lib.rt:515:52
 slice-aggregate-step3-2 : tie.Need-slice-aggregate-step3-2
 slice-aggregate-step3-2 c = search needs
 
--- src/lib.rt:515:5
 step3-requires : tie.Need-step3-requires
-step3-requires c κs = search needs
+step3-requires c κs = (prepared (hall-made (step1-done c)), search needs, search needs)
 
--- src/lib.rt:516:45
 slice-aggregate-messages-of : tie.Need-slice-aggregate-messages-of
 slice-aggregate-messages-of c = search needs
 
--- src/lib.rt:516:54
 slice-aggregate-messages-of-2 : tie.Need-slice-aggregate-messages-of-2
 slice-aggregate-messages-of-2 c = search needs
 
--- src/lib.rt:516:9
 messages-of-requires : tie.Need-messages-of-requires
 messages-of-requires c κs = search needs
 
--- src/lib.rt:519:39
 slice-aggregate-step4 : tie.Need-slice-aggregate-step4
 slice-aggregate-step4 c = search needs
 
--- src/lib.rt:519:51
 slice-aggregate-step4-2 : tie.Need-slice-aggregate-step4-2
 slice-aggregate-step4-2 c = search needs
 
--- src/lib.rt:519:64
 slice-aggregate-step4-3 : tie.Need-slice-aggregate-step4-3
 slice-aggregate-step4-3 c = search needs
 
--- src/lib.rt:519:5
 step4-requires : tie.Need-step4-requires
-step4-requires c κs = search needs
+step4-requires c κs =
+    let voted = step3-done (counted c .before) in
+    (prepared (hall-made (step1-done (voted .before))), search needs, search needs, search needs)
 
--- src/lib.rt:491:1
 returns : tie.Need-returns
-returns c = search needs
+returns c =
+    let graded = c .before .before .before in
+    let sent = counted (graded .before) in
+    let voted = step3-done (sent .before) in
+    let second = step1-done (voted .before) .step1 .ensures in
+    let third = voted .step3 .ensures _ second in
+    cast-is _ _ _ _ _ _ _ refl (sent .messages-of .ensures _ _ _ second third) (graded .step4 .ensures _ third)
 
 pub all-steps-spec : {M : Type 1} → statement M
 all-steps-spec =

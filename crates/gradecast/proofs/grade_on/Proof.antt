@@ -51,11 +51,11 @@ returns c =
     let p = start (asked .before) .pre in
     let is-asked = sym (asked .before .is-member .ensures) ∙ asked .if1 .taken in (
       ap (λ (r : Graded). r .row) (c .grade .ensures)
-      ∙ part-row (a .hall .t) (p .0 .low) (p .0 .high) (p .0 .tolerated) (p .1) (a .heard .now) (p .2)
-      ∙ sym (on-asked _ _ _ _ _ is-asked),
+          ∙ part-row (a .hall .t) (p .0 .low) (p .0 .high) (p .0 .tolerated) (p .1) (a .heard .now) (p .2)
+          ∙ sym (on-asked _ _ _ _ _ is-asked),
       ap (λ (r : Graded). r .confidence) (c .grade .ensures)
-      ∙ part-confidence (a .hall .t) (p .0 .low) (p .0 .high) (p .0 .tolerated) (p .1) (a .heard .now) (p .2)
-      ∙ sym (on-asked _ _ _ _ _ is-asked),
+          ∙ part-confidence (a .hall .t) (p .0 .low) (p .0 .high) (p .0 .tolerated) (p .1) (a .heard .now) (p .2)
+          ∙ sym (on-asked _ _ _ _ _ is-asked),
     )
 
 plain-grade-requires : tie.Need-plain-grade-requires

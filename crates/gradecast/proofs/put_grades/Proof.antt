@@ -18,7 +18,7 @@ Inv-loop hall said heard i rows₀ confidences₀ n k₀ rows confidences k =
     (length confidences ≡ length confidences₀) ×
     PutTo (hall .n) i k (λ m. onLeader hall gradedRow (saidBy (hall .n) said m i) heard m) rows₀ rows ×
     PutTo (hall .n) i k (λ m. onLeader hall confidenceOf (plainConfidence (saidBy (hall .n) said m i)) heard m)
-        confidences₀ confidences
+    confidences₀ confidences
 
 abbrev μ-loop : tie.MeasureT-loop
 μ-loop hall said heard i rows₀ confidences₀ n k₀ rows confidences k = hall .n - k
