@@ -1,6 +1,6 @@
--- The leaders that must be counted, and what a box has of the others with no counting. Where at most t boxes are faulty
--- and no list holds a sound box, every sound box hears a sound leader's row in step 1, hears it again from every sound
--- box in steps 2 and 3, and so votes for it and grades it with that row.
+-- The leaders that must be counted, and what a box has of the others with no counting. Where at most t boxes are
+-- faulty and no list holds a sound box, every sound box hears a sound leader's row in step 1, hears it again from every
+-- sound box in steps 2 and 3, and so votes for it and grades it with that row.
 -- Assumes nothing.
 use mathlib.Core.Path.{_≡_, sym, ap, _∙_}
 use mathlib.Core.Bool.{true, false}
@@ -18,7 +18,8 @@ use Rattle.gradecast.specs.declared.Hall.{Hall}
 use Rattle.gradecast.specs.Steps.{heard1, voted, confidence, gradeRow}
 use Rattle.gradecast.specs.Cast.{ofSound, cells}
 use Rattle.gradecast.specs.Fair.{SoundBox, faultyBoxes}
-use Rattle.gradecast.specs.Inside.{AllHeard, saidBy, columnOf, EnoughAsked, AskedFor, Prepared, onLeader, plainConfidence, SaidSecond, SaidThird}
+use Rattle.gradecast.specs.Inside.{AllHeard, saidBy, columnOf, AskedFor, Prepared, onLeader, plainConfidence}
+use Rattle.gradecast.specs.Inside.{SaidSecond, SaidThird}
 use Rattle.gradecast.proofs.Boxes.{sound-not-faulty, not-faulty-sound}
 use Rattle.gradecast.proofs.Cells.{cells-at}
 use Rattle.gradecast.proofs.Columns.{votes-heard, rows-heard, confidences-heard}
@@ -63,7 +64,9 @@ module _ (hall : Hall) (counted : ℕ → List ℕ → ℕ) (plain : ℕ) (heard
   unfolding onLeader
   on-other h = cond-false (counted (hall .t) (columnOf (hall .n) heard k)) plain h
 
-  on-leader : {v : ℕ} → counted (hall .t) (columnOf (hall .n) heard k) ≡ v → (member (hall .asked) k ≡ false → plain ≡ v) →
+  -- v, where the count and the plain answer are both v
+  on-leader : {v : ℕ} → counted (hall .t) (columnOf (hall .n) heard k) ≡ v →
+      (member (hall .asked) k ≡ false → plain ≡ v) →
       onLeader hall counted plain heard k ≡ v
   on-leader a b = ⊎-elim (λ h. on-asked h ∙ a) (λ h. on-other h ∙ b h) (either (member (hall .asked) k))
 
@@ -97,7 +100,7 @@ module _
             onLeader hall voteOf (saidBy (hall .n) said k i) heard k ≡ ofSound (hall .faulty) Y i k
         votes-made k l =
             on-leader hall voteOf (saidBy (hall .n) said k i) heard k
-            (votes-heard (hall .n) (hall .t) (hall .faulty) lists table said heard i (p .ready .high) size is-sound rows h e k l)
+            (votes-heard _ _ _ _ _ _ _ _ (p .ready .high) size is-sound rows h e k l)
             (λ out.
             let trust = p .enough k l out in
             own-cell (heard1 (hall .n) (hall .faulty) rows lists table) e k l
@@ -106,7 +109,9 @@ module _
             ∙ sym (of-sound (hall .faulty) Y i k is-sound))
 
     module _
-        (h : AllHeard (hall .n * hall .n + hall .n * hall .n * hall .n) (hall .n) (getD lists i 0) (hall .faulty) table said i heard)
+        (h :
+        AllHeard (hall .n * hall .n + hall .n * hall .n * hall .n) (hall .n) (getD lists i 0) (hall .faulty) table said i
+        heard)
         (e : SaidThird (hall .n) (hall .t) (hall .faulty) lists table said rows)
       where
         -- what it said about a leader that is not asked is the leader's row
@@ -121,12 +126,12 @@ module _
             ofSound (hall .faulty) (gradeRow (hall .n) (hall .t) (hall .faulty) rows lists table) i k
         rows-made k l =
             on-leader hall gradedRow (saidBy (hall .n) said k i) heard k
-            (rows-heard (hall .n) (hall .t) (hall .faulty) lists table said heard i (p .ready .high) size is-sound rows h e k l)
+            (rows-heard _ _ _ _ _ _ _ _ (p .ready .high) size is-sound rows h e k l)
             (λ out.
             let trust = p .enough k l out in
             said-row k l out
             ∙ sym (sound-graded (trust .0) rows table i k this-box (trust .1) .1)
-            ∙ sym (of-sound (hall .faulty) (gradeRow (hall .n) (hall .t) (hall .faulty) rows lists table) i k is-sound))
+            ∙ sym (of-sound (hall .faulty) _ i k is-sound))
 
         -- and the confidence
         pub confidences-made : (k : ℕ) → k < hall .n →
@@ -134,9 +139,9 @@ module _
             ofSound (hall .faulty) (confidence (hall .n) (hall .t) (hall .faulty) rows lists table) i k
         confidences-made k l =
             on-leader hall confidenceOf (plainConfidence (saidBy (hall .n) said k i)) heard k
-            (confidences-heard (hall .n) (hall .t) (hall .faulty) lists table said heard i (p .ready .high) size is-sound rows h e k l)
+            (confidences-heard _ _ _ _ _ _ _ _ (p .ready .high) size is-sound rows h e k l)
             (λ out.
             let trust = p .enough k l out in
             ap plainConfidence (said-row k l out)
             ∙ sym (sound-graded (trust .0) rows table i k this-box (trust .1) .0)
-            ∙ sym (of-sound (hall .faulty) (confidence (hall .n) (hall .t) (hall .faulty) rows lists table) i k is-sound))
+            ∙ sym (of-sound (hall .faulty) _ i k is-sound))

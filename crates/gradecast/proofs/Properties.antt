@@ -191,8 +191,10 @@ module _ {n t faulty : ℕ} {lists : List ℕ} (calm : Calm n t faulty lists) (r
 
       go : Dec (getD rows k 0 ≡ 0) → (sure i k ≡ cond (eqb (getD rows k 0) 0) 0 2) × (graded i k ≡ getD rows k 0)
       go (yes e) =
-          let none = grade-silent (calm .tolerated) (calm .few) (λ j. Zof i j k) (λ j sj. all-say j sj ∙ e) in
-          (none ∙ sym (cond-true 0 2 (eq-eqb (getD rows k 0) 0 e)), row-none n t faulty rows lists table i k none ∙ sym e)
+          let none = grade-silent (calm .tolerated) (calm .few) (λ j. Zof i j k) (λ j sj. all-say j sj ∙ e) in (
+            none ∙ sym (cond-true 0 2 (eq-eqb (getD rows k 0) 0 e)),
+            row-none n t faulty rows lists table i k none ∙ sym e,
+          )
       go (no z) =
           let two = grade-all (calm .tolerated) (calm .few) (λ j. Zof i j k) (getD rows k 0) z all-say in
           (two .0 ∙ sym (cond-false 0 2 (ne-eqb (getD rows k 0) 0 z)), two .1)

@@ -44,8 +44,8 @@ pub struct Cast {
     pub confidences: [u8; 169],
 }
 
-// What is the same for all boxes of one call: how many there are, how many may be faulty, and which are; those that are
-// faulty or on some list; and the leaders that must be counted.
+// What is the same for all boxes of one call: how many there are, how many may be faulty and which are; the boxes that
+// are faulty or on some list; and the leaders that must be counted.
 struct Hall {
     n: usize,
     t: u8,
@@ -366,7 +366,8 @@ fn put_grades(
         (λ k. onLeader hall gradedRow (saidBy (hall .n) (now (said .entry)) k i) (now (heard .entry)) k)
         (now (rows .entry)) (now (rows .exit)) ⌝ }
     ensures { λ r. ⌜ PutTo (hall .n) i (hall .n)
-        (λ k. onLeader hall confidenceOf (plainConfidence (saidBy (hall .n) (now (said .entry)) k i)) (now (heard .entry)) k)
+        (λ k. onLeader hall confidenceOf (plainConfidence (saidBy (hall .n) (now (said .entry)) k i))
+        (now (heard .entry)) k)
         (now (confidences .entry)) (now (confidences .exit)) ⌝ }
 {
     let n = hall.n;

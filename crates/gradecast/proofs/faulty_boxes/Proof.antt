@@ -1,5 +1,5 @@
--- `gradecast::faulty_boxes` meets its contract: after j turns it has counted the faulty boxes below j. What is left of n
--- falls. Assumes nothing.
+-- `gradecast::faulty_boxes` meets its contract: after j turns it has counted the faulty boxes below j. What is left of
+-- n falls. Assumes nothing.
 use mathlib.Core.Path.{_≡_}
 use Prim.Native.Nat.{_≤_, _-_}
 use native.Mathlib.Omega.{arith}

@@ -17,7 +17,9 @@ abbrev start : tie.After-is-member → tie.Start
 start c = c .before .before
 
 -- leader k's column lies within what was heard
-column-fits : (c : tie.After-is-member) → let a = start c .args in a .k * a .hall .n + a .hall .n ≤ length (a .heard .now)
+column-fits : (c : tie.After-is-member) →
+    let a = start c .args in
+    a .k * a .hall .n + a .hall .n ≤ length (a .heard .now)
 column-fits c = let p = start c .pre in omega (arith, part-fits (p .0 .high) (p .1), p .2)
 
 is-member-requires : tie.Need-is-member-requires

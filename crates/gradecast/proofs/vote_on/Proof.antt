@@ -1,5 +1,5 @@
--- `gradecast::vote_on` meets its contract: the test is whether leader k is asked, and the column of one that is lies from
--- k * n to k * n + n. Assumes nothing.
+-- `gradecast::vote_on` meets its contract: the test is whether leader k is asked, and the column of one that is lies
+-- from k * n to k * n + n. Assumes nothing.
 use mathlib.Core.Path.{sym, ap, _∙_}
 use Prim.Native.Nat.{_+_, _*_, _≤_}
 use native.Mathlib.Omega.{arith}
@@ -17,7 +17,9 @@ abbrev start : tie.After-is-member → tie.Start
 start c = c .before .before
 
 -- leader k's column lies within what was heard
-column-fits : (c : tie.After-is-member) → let a = start c .args in a .k * a .hall .n + a .hall .n ≤ length (a .heard .now)
+column-fits : (c : tie.After-is-member) →
+    let a = start c .args in
+    a .k * a .hall .n + a .hall .n ≤ length (a .heard .now)
 column-fits c = let p = start c .pre in omega (arith, part-fits (p .0 .high) (p .1), p .2)
 
 is-member-requires : tie.Need-is-member-requires
