@@ -1,6 +1,6 @@
 -- The leaders that must be counted, and what a box has of the others with no counting. Where at most t boxes are
--- faulty and no list holds a sound box, every sound box hears a sound leader's row in step 1, hears it again from every
--- sound box in steps 2 and 3, and so votes for it and grades it with that row.
+-- faulty and no list holds a sound box, every sound box hears a sound leader's row in step 1, hears it again from
+-- every sound box in steps 2 and 3, and so votes for it and grades it with that row.
 -- Assumes nothing.
 use mathlib.Core.Path.{_≡_, sym, ap, _∙_}
 use mathlib.Core.Bool.{true, false}
@@ -110,8 +110,8 @@ module _
 
     module _
         (h :
-        AllHeard (hall .n * hall .n + hall .n * hall .n * hall .n) (hall .n) (getD lists i 0) (hall .faulty) table said i
-        heard)
+        AllHeard (hall .n * hall .n + hall .n * hall .n * hall .n) (hall .n) (getD lists i 0) (hall .faulty) table
+        said i heard)
         (e : SaidThird (hall .n) (hall .t) (hall .faulty) lists table said rows)
       where
         -- what it said about a leader that is not asked is the leader's row

@@ -142,7 +142,7 @@ fn one_if_member(set: u16, j: usize) -> usize
 
 // How many of the n boxes are faulty.
 fn faulty_boxes(n: usize, faulty: u16) -> usize
-    ensures { λ r. ⌜ (r ≡ faultyBoxes n faulty) × (r ≤ n) ⌝ }
+    ensures { λ r. ⌜ r ≡ faultyBoxes n faulty ⌝ }
 {
     let mut found: usize = 0;
     let mut j: usize = 0;

@@ -1,6 +1,5 @@
 -- `gradecast::asked_leaders` meets its contract: to ask all is always enough, and to ask the faulty ones is where the
 -- two tests say that few are faulty and that no other box is odd. Assumes nothing.
-use mathlib.Core.Path.{sym, _∙_}
 use native.Mathlib.Omega.{arith}
 use Rattle.gradecast.proofs.Asked.{all-asked, faulty-asked}
 use borrow.Author.Needs.{needs}
@@ -17,7 +16,7 @@ returns-2 : tie.Need-returns-2
 returns-2 c =
     let counted = c .before .before in
     let p = counted .before .pre in
-    let found = counted .faulty-boxes .ensures .0 in
+    let found = counted .faulty-boxes .ensures in
     faulty-asked _ _ _ _ (p .0) (p .1) (omega (arith, found, c .before .if1 .left)) (c .if2 .taken)
 
 returns-3 : tie.Need-returns-3

@@ -4,7 +4,6 @@ use mathlib.Core.Path.{refl, sym}
 use borrow.Author.Tests.{eq-eqb, ne-eqb}
 use Rattle.counting.proofs.Bools.{cond-true, cond-false}
 use Rattle.gradecast.specs.Inside.{plainConfidence}
-use borrow.Author.Needs.{needs}
 use Rattle.gradecast.proofs.plain_grade.Statement.{statement}
 use Rattle.gradecast.proofs.plain_grade.Tie as tie
 
