@@ -39,6 +39,14 @@ module _ (faulty : ℕ) (lists : List ℕ) where
       regroup true b c = refl
       regroup false b c = refl
 
+  -- a box that is not among them is on no list
+  pub not-odd-listed : (j : ℕ) → oddTo 13 faulty lists j ≡ false → (i : ℕ) → i < 13 → member (getD lists i 0) j ≡ false
+  unfolding oddTo
+  not-odd-listed j h = any-none 13 listed (or-false-right (member faulty j) (any 13 listed) h)
+    where
+      listed : ℕ → Bool
+      listed a = member (getD lists a 0) j
+
 module _ (n faulty : ℕ) (lists said : List ℕ) where
   module _ (base : ℕ) (table : List ℕ) (i : ℕ) (is-box : i < 13) where
     -- what a box hears from a sender that is neither faulty nor listed
@@ -47,13 +55,10 @@ module _ (n faulty : ℕ) (lists said : List ℕ) where
     unfolding heardFrom hears sends oddTo
     plain-heard k j h =
         rw (
-          any-none 13 listed (or-false-right (member faulty j) (any 13 listed) h) i is-box,
-          or-false-left (member faulty j) (any 13 listed) h,
+          not-odd-listed faulty lists j h i is-box,
+          or-false-left (member faulty j) (any 13 (λ a. member (getD lists a 0) j)) h,
         )
         refl
-      where
-        listed : ℕ → Bool
-        listed a = member (getD lists a 0) j
 
     -- so its rows are there already
     pub plain-turn : (j : ℕ) (heard : List ℕ) → j < n → oddTo 13 faulty lists j ≡ false →

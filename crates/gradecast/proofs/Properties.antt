@@ -5,16 +5,17 @@
 -- at one sound box is t + 1 at another.
 -- Assumes nothing.
 use mathlib.Core.Path.{_≡_, refl, sym, _∙_}
-use mathlib.Core.Bool.{true}
+use mathlib.Core.Bool.{true, cond}
 use mathlib.Core.List.{List}
 use Prim.Native.Nat.{ℕ, _*_, _≤_, _<_}
 use native.Mathlib.Decide.{ℕ-discrete}
 use native.Mathlib.Omega.{arith}
 use lib.Dec.{eqb}
 use lib.ListN.{getD}
-use borrow.Author.Tests.{eqb-true}
+use borrow.Author.Tests.{eqb-true, eq-eqb, ne-eqb}
 use Rattle.counting.specs.Count.{build}
 use Rattle.counting.specs.Sets.{member}
+use Rattle.counting.proofs.Bools.{cond-true, cond-false}
 use Rattle.counting.proofs.Build.{length-build}
 use Rattle.counting.proofs.Count.{Between, count-more}
 use Rattle.counting.proofs.Places.{places-build, places-one}
@@ -22,8 +23,9 @@ use Rattle.tally.specs.Tally.{voteOf, confidenceOf, gradedRow, supportOf}
 use Rattle.tally.proofs.Laws.{vote-carried, vote-none, vote-is, confidence-2, confidence-0, places-support, graded-counts, graded-firm}
 use Rattle.gradecast.specs.Steps.{place1, place2, place3, sends, hears, heard1, heard2, column2, voted, heard3, column3, confidence, gradeRow}
 use Rattle.gradecast.specs.Fair.{SoundBox, Fair, Gradecast, faultyBoxes}
+use Rattle.gradecast.specs.Inside.{Calm, plainConfidence}
 use Rattle.gradecast.proofs.Boxes.{sound-not-faulty, not-faulty-sound}
-use Rattle.gradecast.proofs.Grades.{positive, at-most-2, row-not-zero}
+use Rattle.gradecast.proofs.Grades.{positive, at-most-2, row-none, row-not-zero}
 use Rattle.gradecast.proofs.Listed.{listed-heard1}
 use Rattle.gradecast.proofs.Near.{all-places, no-places, near}
 
@@ -126,7 +128,8 @@ module _ {n t faulty : ℕ} (tolerated : 3 * t < n) (few : faultyBoxes n faulty 
           count-more n (member faulty) (λ j. eqb (f j) v)
           (omega (arith, above, graded-counts t (build n f) z .1, places-build n f v))
 
-module _ {n t faulty : ℕ} {rows lists : List ℕ} (fair : Fair n t faulty rows lists) (table : List ℕ) where
+-- where all is calm, for any rows
+module _ {n t faulty : ℕ} {lists : List ℕ} (calm : Calm n t faulty lists) (rows table : List ℕ) where
   -- the document's V, X, Y, Z and the grades
   abbrev Vof : ℕ → ℕ → ℕ
   Vof = heard1 n faulty rows lists table
@@ -151,9 +154,9 @@ module _ {n t faulty : ℕ} {rows lists : List ℕ} (fair : Fair n t faulty rows
       hears (getD lists i 0) j (sends faulty table j place m) ≡ m
   unfolding hears sends
   hears-sound i j place m si sj =
-      rw (fair .none-listed i j si sj, sound-not-faulty faulty j (sj .is-sound)) refl
+      rw (calm .none-listed i j si sj, sound-not-faulty faulty j (sj .is-sound)) refl
 
-  heard1-is : (i k : ℕ) → SoundBox n faulty i → SoundBox n faulty k → Vof i k ≡ getD rows k 0
+  pub heard1-is : (i k : ℕ) → SoundBox n faulty i → SoundBox n faulty k → Vof i k ≡ getD rows k 0
   unfolding heard1
   heard1-is i k si sk = hears-sound i k (place1 n k i) (getD rows k 0) si sk
 
@@ -166,11 +169,35 @@ module _ {n t faulty : ℕ} {rows lists : List ℕ} (fair : Fair n t faulty rows
   heard3-is i j k si sj = hears-sound i j (place3 n j i k) (Yof j k) si sj
 
   -- a sound leader's row is every sound box's vote
-  sound-voted : (i k : ℕ) → SoundBox n faulty i → SoundBox n faulty k → Yof i k ≡ getD rows k 0
+  pub sound-voted : (i k : ℕ) → SoundBox n faulty i → SoundBox n faulty k → Yof i k ≡ getD rows k 0
   unfolding voted column2
-  sound-voted i k si sk =
-      vote-all (fair .tolerated) (fair .few) (λ j. Xof i j k) (getD rows k 0) (fair .none-zero k sk)
-      (λ j sj. heard2-is i j k si sj ∙ heard1-is j k sj sk)
+  sound-voted i k si sk = go (ℕ-discrete (getD rows k 0) 0)
+    where
+      all-say : (j : ℕ) → SoundBox n faulty j → Xof i j k ≡ getD rows k 0
+      all-say j sj = heard2-is i j k si sj ∙ heard1-is j k sj sk
+
+      go : Dec (getD rows k 0 ≡ 0) → voteOf t (build n (λ j. Xof i j k)) ≡ getD rows k 0
+      go (yes e) = vote-silent (calm .tolerated) (calm .few) (λ j. Xof i j k) (λ j sj. all-say j sj ∙ e) ∙ sym e
+      go (no z) = vote-all (calm .tolerated) (calm .few) (λ j. Xof i j k) (getD rows k 0) z all-say
+
+  -- and every sound box grades it with that row: with confidence 2, or with 0 where the row is 0
+  pub sound-graded : (i k : ℕ) → SoundBox n faulty i → SoundBox n faulty k →
+      (sure i k ≡ plainConfidence (getD rows k 0)) × (graded i k ≡ getD rows k 0)
+  unfolding confidence gradeRow column3 plainConfidence
+  sound-graded i k si sk = go (ℕ-discrete (getD rows k 0) 0)
+    where
+      all-say : (j : ℕ) → SoundBox n faulty j → Zof i j k ≡ getD rows k 0
+      all-say j sj = heard3-is i j k si sj ∙ sound-voted j k sj sk
+
+      go : Dec (getD rows k 0 ≡ 0) → (sure i k ≡ cond (eqb (getD rows k 0) 0) 0 2) × (graded i k ≡ getD rows k 0)
+      go (yes e) =
+          let none = grade-silent (calm .tolerated) (calm .few) (λ j. Zof i j k) (λ j sj. all-say j sj ∙ e) in (
+            none ∙ sym (cond-true 0 2 (eq-eqb (getD rows k 0) 0 e)),
+            row-none n t faulty rows lists table i k none ∙ sym e,
+          )
+      go (no z) =
+          let two = grade-all (calm .tolerated) (calm .few) (λ j. Zof i j k) (getD rows k 0) z all-say in
+          (two .0 ∙ sym (cond-false 0 2 (ne-eqb (getD rows k 0) 0 z)), two .1)
 
   -- two sound boxes see the same at the sound boxes, in step 3 and in step 4
   same-heard2 : (i j k : ℕ) → SoundBox n faulty i → SoundBox n faulty j → (l : ℕ) → SoundBox n faulty l →
@@ -185,13 +212,13 @@ module _ {n t faulty : ℕ} {rows lists : List ℕ} (fair : Fair n t faulty rows
       (Yof i k ≡ 0 → ⊥) → (Yof j k ≡ 0 → ⊥) → Yof i k ≡ Yof j k
   unfolding voted column2
   votes-once i j k si sj y z =
-      vote-one (fair .tolerated) (fair .few) (λ l. Xof i l k) (λ l. Xof j l k) (same-heard2 i j k si sj) y z
+      vote-one (calm .tolerated) (calm .few) (λ l. Xof i l k) (λ l. Xof j l k) (same-heard2 i j k si sj) y z
 
   -- a row that counts at a sound box is a sound box's vote
   voter : (i k : ℕ) → SoundBox n faulty i → (sure i k ≡ 0 → ⊥) → Witness n faulty (λ l. Yof l k) (graded i k)
   unfolding confidence gradeRow column3
   voter i k si z =
-      let w = grade-witness (fair .tolerated) (fair .few) (λ l. Zof i l k) z in
+      let w = grade-witness (calm .tolerated) (calm .few) (λ l. Zof i l k) z in
       record { at = w .at; box-sound = w .box-sound; here = sym (heard3-is i (w .at) k si (w .box-sound)) ∙ w .here }
 
   -- two sound boxes that count a leader each count a sound box's vote
@@ -209,7 +236,7 @@ module _ {n t faulty : ℕ} {rows lists : List ℕ} (fair : Fair n t faulty rows
   never-none : (i j k : ℕ) → SoundBox n faulty i → SoundBox n faulty j → sure i k ≡ 2 → sure j k ≡ 0 → ⊥
   unfolding confidence column3
   never-none i j k si sj =
-      grade-near (fair .tolerated) (fair .few) (λ l. Zof i l k) (λ l. Zof j l k)
+      grade-near (calm .tolerated) (calm .few) (λ l. Zof i l k) (λ l. Zof j l k)
       (same-heard3 i j k si sj)
 
   -- a leader on every sound list: nothing of it is heard, so nothing is sent on
@@ -217,31 +244,37 @@ module _ {n t faulty : ℕ} {rows lists : List ℕ} (fair : Fair n t faulty rows
       (i : ℕ) → SoundBox n faulty i → sure i k ≡ 0
   unfolding confidence column3 voted column2
   all-silent k h i si =
-      grade-silent (fair .tolerated) (fair .few) (λ j. Zof i j k)
+      grade-silent (calm .tolerated) (calm .few) (λ j. Zof i j k)
       (λ j sj.
       heard3-is i j k si sj
-      ∙ vote-silent (fair .tolerated) (fair .few) (λ l. Xof j l k)
+      ∙ vote-silent (calm .tolerated) (calm .few) (λ l. Xof j l k)
       (λ l sl. heard2-is j l k sj sl ∙ listed-heard1 n t faulty rows lists table l k (h l sl)))
 
-  -- the promises
-  pub gradecast : Gradecast n t faulty rows lists table
-  unfolding confidence gradeRow column3
-  gradecast =
-      record {
-        sound-leader =
-            λ i k si sk.
-            grade-all (fair .tolerated) (fair .few) (λ j. Zof i j k) (getD rows k 0)
-            (fair .none-zero k sk) (λ j sj. heard3-is i j k si sj ∙ sound-voted j k sj sk);
-        one-vote = votes-once;
-        one-row = counts-once;
-        firm-counts =
-            λ i j k si sj two.
-            let z = never-none i j k si sj two in
-            (positive z, counts-once j i k sj si z (λ e. absurd (omega arith)));
-        split-weak =
-            λ i j k si sj none.
-            let low = at-most-2 n t faulty rows lists table j k in
-            let z : sure j k ≡ 2 → ⊥ = λ two. never-none j i k sj si two none in
-            omega (arith, z);
-        all-listed = all-silent;
-      }
+-- the promises
+pub gradecast : {n t faulty : ℕ} {rows lists : List ℕ} → Fair n t faulty rows lists → (table : List ℕ) →
+    Gradecast n t faulty rows lists table
+unfolding plainConfidence
+gradecast {n} {t} {faulty} {rows} {lists} fair table =
+    record {
+      sound-leader =
+          λ i k si sk.
+          let g = sound-graded calm rows table i k si sk in
+          (g .0 ∙ cond-false 0 2 (ne-eqb (getD rows k 0) 0 (fair .none-zero k sk)), g .1);
+      one-vote = votes-once calm rows table;
+      one-row = counts-once calm rows table;
+      firm-counts =
+          λ i j k si sj two.
+          let z = never-none calm rows table i j k si sj two in
+          (positive z, counts-once calm rows table j i k sj si z (λ e. absurd (omega arith)));
+      split-weak =
+          λ i j k si sj none.
+          let low = at-most-2 n t faulty rows lists table j k in
+          let z : confidence n t faulty rows lists table j k ≡ 2 → ⊥ =
+          λ two. never-none calm rows table j i k sj si two none
+          in
+          omega (arith, z);
+      all-listed = all-silent calm rows table;
+    }
+  where
+    calm : Calm n t faulty lists
+    calm = record { tolerated = fair .tolerated; few = fair .few; none-listed = fair .none-listed }

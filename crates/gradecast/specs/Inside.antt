@@ -1,14 +1,17 @@
 -- What the private functions say of their parts of the work. No promise of the crate names any of it.
 use Prim.Native.Nat.{ℕ, _+_, _*_, _≤_, _<_}
 use mathlib.Core.Path.{_≡_}
-use mathlib.Core.Bool.{Bool, false, _||_}
+use mathlib.Core.Bool.{Bool, false, cond, _||_}
 use mathlib.Core.List.{List}
+use lib.Dec.{eqb}
 use lib.ListN.{length, getD, take, drop}
 use Rattle.counting.specs.Count.{any}
 use Rattle.counting.specs.Sets.{member}
 use Rattle.sizes.specs.Sizes.{tableRows}
 use Rattle.gradecast.specs.Steps.{placeFrom, sends, hears, heard1, voted, confidence, gradeRow, messages}
 use Rattle.gradecast.specs.Cast.{ofSound, cellsTo, cells}
+use Rattle.gradecast.specs.Fair.{SoundBox, faultyBoxes, NoSoundListed}
+use Rattle.gradecast.specs.declared.Hall.{Hall}
 
 -- what steps 1 to 4 count on: the call was not refused by 4 or 11
 pub record Ready (n : ℕ) (table : List ℕ) : Type 0 where
@@ -20,6 +23,12 @@ pub record Ready (n : ℕ) (table : List ℕ) : Type 0 where
 pub record Among (n i k : ℕ) : Type 0 where
   pub is-box : i < n
   pub is-leader : k < n
+
+-- the numbers of boxes are as the steps take them
+pub record RightSize (hall : Hall) : Type 0 where
+  pub low : 1 ≤ hall .n
+  pub high : hall .n ≤ 13
+  pub tolerated : 3 * hall .t < hall .n
 
 -- what a box i with this list hears from box j about leader k, where what sound boxes send stands in 169 places
 unfoldable pub heardFrom : ℕ → ℕ → ℕ → ℕ → List ℕ → List ℕ → ℕ → ℕ → ℕ → ℕ
@@ -57,6 +66,29 @@ abbrev pub PlainHeard : ℕ → ℕ → List ℕ → List ℕ → List ℕ → T
 PlainHeard n faulty lists said heard =
     (k j : ℕ) → k < n → j < n → oddTo 13 faulty lists j ≡ false → getD heard (k * n + j) 0 ≡ saidBy n said k j
 
+-- no more boxes are faulty than may be, and no sound box's list holds a sound box
+pub record Calm (n t faulty : ℕ) (lists : List ℕ) : Type 0 where
+  pub tolerated : 3 * t < n
+  pub few : faultyBoxes n faulty ≤ t
+  pub none-listed : NoSoundListed n faulty lists
+
+-- a leader that is not asked is sound, and all is calm: so it need not be counted
+abbrev pub EnoughAsked : ℕ → ℕ → ℕ → List ℕ → ℕ → Type 0
+EnoughAsked n t faulty lists asked =
+    (k : ℕ) → k < n → member asked k ≡ false → Calm n t faulty lists × SoundBox n faulty k
+
+-- enough is asked for any lists of which this is the set of odd boxes
+abbrev pub AskedFor : ℕ → ℕ → ℕ → ℕ → ℕ → Type 0
+AskedFor n t faulty odd asked =
+    (lists : List ℕ) → OddSet 13 faulty lists odd → EnoughAsked n t faulty lists asked
+
+-- all that the boxes go by is as it must be, for these lists and this table
+pub record Prepared (hall : Hall) (lists table : List ℕ) : Type 0 where
+  pub ready : Ready (hall .n) table
+  pub tolerated : 3 * hall .t < hall .n
+  pub odd-set : OddSet 13 (hall .faulty) lists (hall .odd)
+  pub enough : EnoughAsked (hall .n) (hall .t) (hall .faulty) lists (hall .asked)
+
 -- where the cells before box i's are there, the first m of its own, which g gives, are put behind them
 abbrev pub PutTo : ℕ → ℕ → ℕ → (ℕ → ℕ) → List ℕ → List ℕ → Type 0
 PutTo n i m g out last =
@@ -65,6 +97,15 @@ PutTo n i m g out last =
 -- the column of leader k in what a box hears
 unfoldable pub columnOf : ℕ → List ℕ → ℕ → List ℕ
 columnOf n heard k = take n (drop (k * n) heard)
+
+-- what a box makes of leader k: the count over k's column where k is asked, else what it has with no counting
+unfoldable pub onLeader : Hall → (ℕ → List ℕ → ℕ) → ℕ → List ℕ → ℕ → ℕ
+onLeader hall counted plain heard k =
+    cond (member (hall .asked) k) (counted (hall .t) (columnOf (hall .n) heard k)) plain
+
+-- the confidence in a sound leader with this row, where all is calm
+unfoldable pub plainConfidence : ℕ → ℕ
+plainConfidence row = cond (eqb row 0) 0 2
 
 -- said is what the sound boxes send in step 2, from these rows
 abbrev pub SaidSecond : ℕ → ℕ → List ℕ → List ℕ → List ℕ → List ℕ → Type 0

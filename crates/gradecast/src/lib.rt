@@ -5,15 +5,21 @@ ghost use Prim.Native.Nat.{_+_, _*_, _<_, _≤_};
 ghost use lib.Dec.{eqb};
 ghost use lib.ListN.{length, getD, replicate};
 ghost use Rattle.counting.specs.Count.{count};
+ghost use Rattle.counting.specs.Sets.{member};
 ghost use Rattle.sizes.specs.Sizes.{sound, tableRows};
 ghost use Rattle.tally.specs.Tally.{voteOf, confidenceOf, gradedRow};
 ghost use Rattle.gradecast.specs.Steps.{place1, placeFrom, sends, hears, heard1};
 ghost use Rattle.gradecast.specs.Cast.{ofSound, cells, castOf, castRefusal, castReply};
+ghost use Rattle.gradecast.specs.Fair.{faultyBoxes};
 ghost use Rattle.gradecast.specs.Inside.{
   Ready,
+  RightSize,
+  Prepared,
+  AskedFor,
   Among,
   heardFrom,
-  columnOf,
+  onLeader,
+  plainConfidence,
   SendersTo,
   AllHeard,
   FromSender,
@@ -36,6 +42,16 @@ pub struct Cast {
     pub sent: u64,
     pub rows: [u64; 169],
     pub confidences: [u8; 169],
+}
+
+// What is the same for all boxes of one call: how many there are, how many may be faulty and which are; the boxes that
+// are faulty or on some list; and the leaders that must be counted.
+struct Hall {
+    n: usize,
+    t: u8,
+    faulty: u16,
+    odd: u16,
+    asked: u16,
 }
 
 // What a box with this list hears from j: nothing from a listed box, the table's row from a faulty one, else j's own row.
@@ -117,6 +133,41 @@ fn odd_boxes(faulty: u16, lists: &[u16; 13]) -> u16
     odd
 }
 
+// 1 for a member of the set, else 0.
+fn one_if_member(set: u16, j: usize) -> usize
+    ensures { λ r. ⌜ r ≡ cond (member set j) 1 0 ⌝ }
+{
+    if sizes::is_member(set, j) { 1 } else { 0 }
+}
+
+// How many of the n boxes are faulty.
+fn faulty_boxes(n: usize, faulty: u16) -> usize
+    ensures { λ r. ⌜ r ≡ faultyBoxes n faulty ⌝ }
+{
+    let mut found: usize = 0;
+    let mut j: usize = 0;
+    while j < n {
+        found += one_if_member(faulty, j);
+        j += 1;
+    }
+    found
+}
+
+// The leaders that must be counted: the faulty ones, where at most t boxes are faulty and the lists hold no sound box;
+// else all. What a box heard from any other leader in step 1 is its vote in step 3 and the row of its grade in step 4.
+fn asked_leaders(n: usize, t: u8, faulty: u16, odd: u16) -> u16
+    requires { ⌜ (n ≤ 13) × (3 * t < n) ⌝ }
+    ensures { λ r. ⌜ AskedFor n t faulty odd r ⌝ }
+{
+    if faulty_boxes(n, faulty) > t as usize {
+        return 65535;
+    }
+    if odd == faulty {
+        return faulty;
+    }
+    65535
+}
+
 // What box j says about every leader, put down as it is.
 fn hear_plain_from(n: usize, said: &[u64; 169], j: usize, heard: &mut [u64])
     requires { ⌜ (n ≤ 13) × (j < n) × (length (now heard) ≡ 169) ⌝ }
@@ -173,49 +224,63 @@ fn hear_from(
 // faulty nor listed is there already, and stays for the next box; only the other senders are gone through.
 fn hear_all(
     base: usize,
-    n: usize,
+    hall: Hall,
     lists: &[u16; 13],
-    faulty: u16,
     table: &[u64],
     said: &[u64; 169],
     i: usize,
     heard: &mut [u64],
 )
-    requires { ⌜ Ready n (now table) × (i < n) × (base + n * n * n ≤ tableRows n) × (length (now heard) ≡ 169) ×
-        PlainHeard n faulty (now lists) (now said) (now heard) ⌝ }
-    ensures { λ r. ⌜ AllHeard base n (getD (now (lists .entry)) i 0) faulty (now (table .entry)) (now (said .entry)) i
+    requires { ⌜ Prepared hall (now lists) (now table) × (i < hall .n) ×
+        (base + hall .n * hall .n * hall .n ≤ tableRows (hall .n)) × (length (now heard) ≡ 169) ×
+        PlainHeard (hall .n) (hall .faulty) (now lists) (now said) (now heard) ⌝ }
+    ensures { λ r. ⌜ AllHeard base (hall .n) (getD (now (lists .entry)) i 0) (hall .faulty) (now (table .entry))
+        (now (said .entry)) i (now (heard .exit)) ⌝ }
+    ensures { λ r. ⌜ PlainHeard (hall .n) (hall .faulty) (now (lists .entry)) (now (said .entry))
         (now (heard .exit)) ⌝ }
-    ensures { λ r. ⌜ PlainHeard n faulty (now (lists .entry)) (now (said .entry)) (now (heard .exit)) ⌝ }
 {
-    let odd = odd_boxes(faulty, lists);
+    let n = hall.n;
     let mut j: usize = 0;
     while j < n {
-        if sizes::is_member(odd, j) {
-            hear_from(base, n, lists[i], faulty, table, said, i, j, heard);
+        if sizes::is_member(hall.odd, j) {
+            hear_from(base, n, lists[i], hall.faulty, table, said, i, j, heard);
         }
         j += 1;
     }
 }
 
-// The votes of box i over the columns that it heard.
-fn put_votes(n: usize, t: u8, heard: &[u64], i: usize, out: &mut [u64])
-    requires { ⌜ (1 ≤ n) × (n ≤ 13) × (3 * t < n) × (i < n) × (length (now heard) ≡ 169) × (length (now out) ≡ 169) ⌝ }
-    ensures { λ r. ⌜ PutTo n i n (λ k. voteOf t (columnOf n (now (heard .entry)) k)) (now (out .entry)) (now (out .exit)) ⌝ }
+// The vote over leader k's column, where k must be counted; else what the box itself said about k.
+fn vote_on(hall: Hall, own: u64, heard: &[u64], k: usize) -> u64
+    requires { ⌜ RightSize hall × (k < hall .n) × (length (now heard) ≡ 169) ⌝ }
+    ensures { λ r. ⌜ r ≡ onLeader hall voteOf own (now (heard .entry)) k ⌝ }
 {
+    if sizes::is_member(hall.asked, k) {
+        let from = k * hall.n;
+        let end = from + hall.n;
+        return tally::vote(&heard[from..end], hall.t).row;
+    }
+    own
+}
+
+// The votes of box i, which said this in step 2, from the columns that it heard.
+fn put_votes(hall: Hall, said: &[u64; 169], heard: &[u64], i: usize, out: &mut [u64])
+    requires { ⌜ RightSize hall × (i < hall .n) × (length (now heard) ≡ 169) × (length (now out) ≡ 169) ⌝ }
+    ensures { λ r. ⌜ PutTo (hall .n) i (hall .n)
+        (λ k. onLeader hall voteOf (saidBy (hall .n) (now (said .entry)) k i) (now (heard .entry)) k)
+        (now (out .entry)) (now (out .exit)) ⌝ }
+{
+    let n = hall.n;
     let mut k: usize = 0;
     while k < n {
-        let from = k * n;
-        let end = from + n;
-        out[i * n + k] = tally::vote(&heard[from..end], t).row;
+        let place = i * n + k;
+        out[place] = vote_on(hall, said[place], heard, k);
         k += 1;
     }
 }
 
 // Steps 2 and 3 for box i: Y, which a sound box sends in step 3, from the V of all boxes. A faulty box's cells stay 0.
 fn step3_box(
-    n: usize,
-    t: u8,
-    faulty: u16,
+    hall: Hall,
     lists: &[u16; 13],
     table: &[u64],
     second: &[u64; 169],
@@ -223,52 +288,93 @@ fn step3_box(
     heard: &mut [u64],
     out: &mut [u64],
 )
-    requires { ⌜ Ready n (now table) × (3 * t < n) × (i < n) × (length (now heard) ≡ 169) × (length (now out) ≡ 169) ×
-        PlainHeard n faulty (now lists) (now second) (now heard) ⌝ }
-    ensures { λ r. ⌜ PutVotes n t faulty (now (lists .entry)) (now (table .entry)) (now (second .entry)) i (now (out .entry)) (now (out .exit)) ⌝ }
-    ensures { λ r. ⌜ PlainHeard n faulty (now (lists .entry)) (now (second .entry)) (now (heard .exit)) ⌝ }
+    requires { ⌜ Prepared hall (now lists) (now table) × (i < hall .n) × (length (now heard) ≡ 169) ×
+        (length (now out) ≡ 169) × PlainHeard (hall .n) (hall .faulty) (now lists) (now second) (now heard) ⌝ }
+    ensures { λ r. ⌜ PutVotes (hall .n) (hall .t) (hall .faulty) (now (lists .entry)) (now (table .entry))
+        (now (second .entry)) i (now (out .entry)) (now (out .exit)) ⌝ }
+    ensures { λ r. ⌜ PlainHeard (hall .n) (hall .faulty) (now (lists .entry)) (now (second .entry))
+        (now (heard .exit)) ⌝ }
 {
-    if sizes::is_member(faulty, i) {
+    let n = hall.n;
+    if sizes::is_member(hall.faulty, i) {
         return;
     }
-    hear_all(n * n, n, lists, faulty, table, second, i, heard);
-    put_votes(n, t, heard, i, out);
+    hear_all(n * n, hall, lists, table, second, i, heard);
+    put_votes(hall, second, heard, i, out);
 }
 
 // Steps 2 and 3: Y of every sound box, put to cells that are 0.
 fn step3(
-    n: usize,
-    t: u8,
-    faulty: u16,
+    hall: Hall,
     lists: &[u16; 13],
     table: &[u64],
     second: &[u64; 169],
     heard: &mut [u64],
     out: &mut [u64],
 )
-    requires { ⌜ Ready n (now table) × (3 * t < n) × (length (now heard) ≡ 169) × (now out ≡ replicate 169 0) ⌝ }
-    ensures { λ r. ⌜ AllVotes n t faulty (now (lists .entry)) (now (table .entry)) (now (second .entry)) (now (out .exit)) ⌝ }
+    requires { ⌜ Prepared hall (now lists) (now table) × (length (now heard) ≡ 169) × (now out ≡ replicate 169 0) ⌝ }
+    ensures { λ r. ⌜ AllVotes (hall .n) (hall .t) (hall .faulty) (now (lists .entry)) (now (table .entry))
+        (now (second .entry)) (now (out .exit)) ⌝ }
 {
+    let n = hall.n;
     hear_plain(n, second, heard);
     let mut i: usize = 0;
     while i < n {
-        step3_box(n, t, faulty, lists, table, second, i, heard, out);
+        step3_box(hall, lists, table, second, i, heard, out);
         i += 1;
     }
 }
 
-// The grades of box i over the columns that it heard.
-fn put_grades(n: usize, t: u8, heard: &[u64], i: usize, rows: &mut [u64], confidences: &mut [u8])
-    requires { ⌜ (1 ≤ n) × (n ≤ 13) × (3 * t < n) × (i < n) × (length (now heard) ≡ 169) × (length (now rows) ≡ 169) × (length (now confidences) ≡ 169) ⌝ }
-    ensures { λ r. ⌜ PutTo n i n (λ k. gradedRow t (columnOf n (now (heard .entry)) k)) (now (rows .entry)) (now (rows .exit)) ⌝ }
-    ensures { λ r. ⌜ PutTo n i n (λ k. confidenceOf t (columnOf n (now (heard .entry)) k)) (now (confidences .entry)) (now (confidences .exit)) ⌝ }
+// The grade that every sound box gives a sound leader whose row is this: confidence 2, or nothing for no row.
+fn plain_grade(row: u64) -> tally::Graded
+    ensures { λ r. ⌜ (r .row ≡ row) × (r .confidence ≡ plainConfidence row) ⌝ }
 {
+    let confidence = if row == 0 { 0 } else { 2 };
+    tally::Graded {
+        refusal: 0,
+        row,
+        confidence,
+    }
+}
+
+// The grade over leader k's column, where k must be counted; else the one that every sound box gives k.
+fn grade_on(hall: Hall, own: u64, heard: &[u64], k: usize) -> tally::Graded
+    requires { ⌜ RightSize hall × (k < hall .n) × (length (now heard) ≡ 169) ⌝ }
+    ensures { λ r. ⌜ (r .row ≡ onLeader hall gradedRow own (now (heard .entry)) k) ×
+        (r .confidence ≡ onLeader hall confidenceOf (plainConfidence own) (now (heard .entry)) k) ⌝ }
+{
+    if sizes::is_member(hall.asked, k) {
+        let from = k * hall.n;
+        let end = from + hall.n;
+        return tally::grade(&heard[from..end], hall.t);
+    }
+    plain_grade(own)
+}
+
+// The grades of box i, which said this in step 3, from the columns that it heard.
+fn put_grades(
+    hall: Hall,
+    said: &[u64; 169],
+    heard: &[u64],
+    i: usize,
+    rows: &mut [u64],
+    confidences: &mut [u8],
+)
+    requires { ⌜ RightSize hall × (i < hall .n) × (length (now heard) ≡ 169) × (length (now rows) ≡ 169) ×
+        (length (now confidences) ≡ 169) ⌝ }
+    ensures { λ r. ⌜ PutTo (hall .n) i (hall .n)
+        (λ k. onLeader hall gradedRow (saidBy (hall .n) (now (said .entry)) k i) (now (heard .entry)) k)
+        (now (rows .entry)) (now (rows .exit)) ⌝ }
+    ensures { λ r. ⌜ PutTo (hall .n) i (hall .n)
+        (λ k. onLeader hall confidenceOf (plainConfidence (saidBy (hall .n) (now (said .entry)) k i))
+        (now (heard .entry)) k)
+        (now (confidences .entry)) (now (confidences .exit)) ⌝ }
+{
+    let n = hall.n;
     let mut k: usize = 0;
     while k < n {
-        let from = k * n;
-        let end = from + n;
-        let graded = tally::grade(&heard[from..end], t);
         let place = i * n + k;
+        let graded = grade_on(hall, said[place], heard, k);
         rows[place] = graded.row;
         confidences[place] = graded.confidence;
         k += 1;
@@ -277,9 +383,7 @@ fn put_grades(n: usize, t: u8, heard: &[u64], i: usize, rows: &mut [u64], confid
 
 // Step 4 for box i, from the Y of all boxes. A faulty box's cells stay 0.
 fn step4_box(
-    n: usize,
-    t: u8,
-    faulty: u16,
+    hall: Hall,
     lists: &[u16; 13],
     table: &[u64],
     third: &[u64; 169],
@@ -288,24 +392,27 @@ fn step4_box(
     rows: &mut [u64],
     confidences: &mut [u8],
 )
-    requires { ⌜ Ready n (now table) × (3 * t < n) × (i < n) × (length (now heard) ≡ 169) × (length (now rows) ≡ 169) ×
-        (length (now confidences) ≡ 169) × PlainHeard n faulty (now lists) (now third) (now heard) ⌝ }
-    ensures { λ r. ⌜ PutRows n t faulty (now (lists .entry)) (now (table .entry)) (now (third .entry)) i (now (rows .entry)) (now (rows .exit)) ⌝ }
-    ensures { λ r. ⌜ PutConfidences n t faulty (now (lists .entry)) (now (table .entry)) (now (third .entry)) i (now (confidences .entry)) (now (confidences .exit)) ⌝ }
-    ensures { λ r. ⌜ PlainHeard n faulty (now (lists .entry)) (now (third .entry)) (now (heard .exit)) ⌝ }
+    requires { ⌜ Prepared hall (now lists) (now table) × (i < hall .n) × (length (now heard) ≡ 169) ×
+        (length (now rows) ≡ 169) × (length (now confidences) ≡ 169) ×
+        PlainHeard (hall .n) (hall .faulty) (now lists) (now third) (now heard) ⌝ }
+    ensures { λ r. ⌜ PutRows (hall .n) (hall .t) (hall .faulty) (now (lists .entry)) (now (table .entry))
+        (now (third .entry)) i (now (rows .entry)) (now (rows .exit)) ⌝ }
+    ensures { λ r. ⌜ PutConfidences (hall .n) (hall .t) (hall .faulty) (now (lists .entry)) (now (table .entry))
+        (now (third .entry)) i (now (confidences .entry)) (now (confidences .exit)) ⌝ }
+    ensures { λ r. ⌜ PlainHeard (hall .n) (hall .faulty) (now (lists .entry)) (now (third .entry))
+        (now (heard .exit)) ⌝ }
 {
-    if sizes::is_member(faulty, i) {
+    let n = hall.n;
+    if sizes::is_member(hall.faulty, i) {
         return;
     }
-    hear_all(n * n + n * n * n, n, lists, faulty, table, third, i, heard);
-    put_grades(n, t, heard, i, rows, confidences);
+    hear_all(n * n + n * n * n, hall, lists, table, third, i, heard);
+    put_grades(hall, third, heard, i, rows, confidences);
 }
 
 // Step 4: what every sound box makes of every leader, put to cells that are 0.
 fn step4(
-    n: usize,
-    t: u8,
-    faulty: u16,
+    hall: Hall,
     lists: &[u16; 13],
     table: &[u64],
     third: &[u64; 169],
@@ -313,24 +420,16 @@ fn step4(
     rows: &mut [u64],
     confidences: &mut [u8],
 )
-    requires { ⌜ Ready n (now table) × (3 * t < n) × (length (now heard) ≡ 169) × (now rows ≡ replicate 169 0) × (now confidences ≡ replicate 169 0) ⌝ }
-    ensures { λ r. ⌜ AllGrades n t faulty (now (lists .entry)) (now (table .entry)) (now (third .entry)) (now (rows .exit)) (now (confidences .exit)) ⌝ }
+    requires { ⌜ Prepared hall (now lists) (now table) × (length (now heard) ≡ 169) × (now rows ≡ replicate 169 0) ×
+        (now confidences ≡ replicate 169 0) ⌝ }
+    ensures { λ r. ⌜ AllGrades (hall .n) (hall .t) (hall .faulty) (now (lists .entry)) (now (table .entry))
+        (now (third .entry)) (now (rows .exit)) (now (confidences .exit)) ⌝ }
 {
+    let n = hall.n;
     hear_plain(n, third, heard);
     let mut i: usize = 0;
     while i < n {
-        step4_box(
-            n,
-            t,
-            faulty,
-            lists,
-            table,
-            third,
-            i,
-            heard,
-            rows,
-            confidences,
-        );
+        step4_box(hall, lists, table, third, i, heard, rows, confidences);
         i += 1;
     }
 }
@@ -401,18 +500,25 @@ fn all_steps(
     requires { ⌜ Ready n (now table) × (3 * t < n) ⌝ }
     ensures { λ r. ⌜ r ≡ castOf n t faulty (now (rows .entry)) (now (lists .entry)) (now (table .entry)) ⌝ }
 {
+    let odd = odd_boxes(faulty, lists);
+    let asked = asked_leaders(n, t, faulty, odd);
+    let hall = Hall {
+        n,
+        t,
+        faulty,
+        odd,
+        asked,
+    };
     let mut second = [0u64; 169];
     step1(n, faulty, rows, lists, table, &mut second);
     let mut heard = [0u64; 169];
     let mut third = [0u64; 169];
-    step3(n, t, faulty, lists, table, &second, &mut heard, &mut third);
+    step3(hall, lists, table, &second, &mut heard, &mut third);
     let sent = messages_of(n, faulty, rows, &second, &third);
     let mut graded = [0u64; 169];
     let mut confidences = [0u8; 169];
     step4(
-        n,
-        t,
-        faulty,
+        hall,
         lists,
         table,
         &third,

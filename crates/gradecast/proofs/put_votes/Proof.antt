@@ -1,59 +1,60 @@
--- `gradecast::put_votes` meets its contract: after k turns the votes over the columns of the leaders below k are put. What is left of n
+-- `gradecast::put_votes` meets its contract: after k turns the votes on the leaders below k are put. What is left of n
 -- falls. Assumes nothing.
-use mathlib.Core.Path.{_≡_, ap, _∙_}
-use Prim.Native.Nat.{_-_, _≤_}
+use mathlib.Core.Path.{_≡_}
+use Prim.Native.Nat.{_+_, _*_, _-_, _<_, _≤_}
 use native.Mathlib.Omega.{arith}
 use lib.ListN.{length}
-use Rattle.gradecast.specs.Inside.{columnOf, PutTo}
 use Rattle.tally.specs.Tally.{voteOf}
-use Rattle.tally.specs.declared.Voted.{Voted}
-use Rattle.gradecast.proofs.Columns.{part-vote}
-use Rattle.gradecast.proofs.Cells.{part-fits, put-none, put-turn, put-whole}
+use Rattle.gradecast.specs.Inside.{saidBy, onLeader, PutTo}
+use Rattle.gradecast.proofs.Cells.{place-fits, put-none, put-turn, put-whole}
 use borrow.Author.Needs.{needs}
 use Rattle.gradecast.proofs.put_votes.Statement.{statement}
 use Rattle.gradecast.proofs.put_votes.Tie as tie
 
 abbrev Inv-loop : tie.InvT-loop
-Inv-loop n t heard i out₀ k₀ out k = (k ≤ n) × (length out ≡ length out₀) × PutTo n i k (λ m. voteOf t (columnOf n heard m)) out₀ out
+Inv-loop hall said heard i out₀ n k₀ out k =
+    (k ≤ hall .n) ×
+    (length out ≡ length out₀) ×
+    PutTo (hall .n) i k (λ m. onLeader hall voteOf (saidBy (hall .n) said m i) heard m) out₀ out
 
 abbrev μ-loop : tie.MeasureT-loop
-μ-loop n t heard i out₀ k₀ out k = n - k
+μ-loop hall said heard i out₀ n k₀ out k = hall .n - k
+
+-- the entry, from a turn
+abbrev start : tie.In-loop Inv-loop μ-loop → tie.Start Inv-loop μ-loop
+start c = c .before .before .before .before
+
+-- the place of leader k lies within the cells
+fits : (c : tie.In-loop Inv-loop μ-loop) → let a = start c .args in a .i * a .hall .n + c .before .loop .k < 169
+fits c = let p = start c .pre in place-fits (p .0 .high) (p .1) (c .loop-test .taken)
 
 loop-holds : tie.Need-loop-holds Inv-loop μ-loop
-loop-holds c = (search needs, search needs, put-none (c .before .before .pre .1) (c .before .before .pre .3) _)
+loop-holds c =
+    let p = c .before .before .pre in
+    (search needs, search needs, put-none (p .0 .high) (p .1) _)
 
-mul-from : tie.Need-mul-from Inv-loop μ-loop
-mul-from c = omega (arith, part-fits (c .before .before .before .before .pre .1) (c .loop-test .taken), c .before .before .before .before .pre .4)
+mul-place : tie.Need-mul-place Inv-loop μ-loop
+mul-place c = omega (arith, fits c)
 
-add-end : tie.Need-add-end Inv-loop μ-loop
-add-end c = omega (arith, part-fits (c .before .before .before .before .pre .1) (c .loop-test .taken), c .before .before .before .before .pre .4)
+add-place : tie.Need-add-place Inv-loop μ-loop
+add-place c = omega (arith, fits c)
 
-mul-vote : tie.Need-mul-vote Inv-loop μ-loop
-mul-vote c = omega (arith, part-fits (c .before .before .before .before .pre .1) (c .loop-test .taken), c .before .before .before .before .pre .4)
+mul-vote-on : tie.Need-mul-vote-on Inv-loop μ-loop
+mul-vote-on c = omega (arith, fits c)
 
-sub-vote : tie.Need-sub-vote Inv-loop μ-loop
-sub-vote c = search needs
+element-copy-out-vote-on : tie.Need-element-copy-out-vote-on Inv-loop μ-loop
+element-copy-out-vote-on c = omega (arith, fits c)
 
-part-vote-start : tie.Need-part-vote-start Inv-loop μ-loop
-part-vote-start c = search needs
-
-part-vote-end : tie.Need-part-vote-end Inv-loop μ-loop
-part-vote-end c = omega (arith, part-fits (c .before .before .before .before .pre .1) (c .loop-test .taken), c .before .before .before .before .pre .4)
-
-vote-requires : tie.Need-vote-requires Inv-loop μ-loop
-vote-requires c κs = search needs
+vote-on-requires : tie.Need-vote-on-requires Inv-loop μ-loop
+vote-on-requires c κs = search needs
 
 mul-out : tie.Need-mul-out Inv-loop μ-loop
-mul-out c = omega (arith, part-fits (c .before .before .before .before .before .before .pre .1) (c .before .before .before .before .before .before .pre .3))
-
-add-out : tie.Need-add-out Inv-loop μ-loop
-add-out c = omega (arith, part-fits (c .before .before .before .before .before .before .pre .1) (c .before .before .before .before .before .before .pre .3))
-
-mul-out-2 : tie.Need-mul-out-2 Inv-loop μ-loop
-mul-out-2 c = omega (arith, part-fits (c .before .before .before .before .before .before .pre .1) (c .before .before .before .before .before .before .pre .3))
+mul-out c = omega (arith, fits (c .before .before))
 
 slice-write-out : tie.Need-slice-write-out Inv-loop μ-loop
-slice-write-out c = omega (arith, part-fits (c .before .before .before .before .before .before .pre .1) (c .before .before .before .before .before .before .pre .3), c .before .before .before .before .before .before .pre .5, c .before .before .before .loop .inv .1)
+slice-write-out c =
+    let turn = c .before .before in
+    omega (arith, fits turn, start turn .pre .3, turn .before .loop .inv .1)
 
 add-k : tie.Need-add-k Inv-loop μ-loop
 add-k c = search needs
@@ -63,19 +64,20 @@ loop-less c = search needs
 
 loop-again : tie.Need-loop-again Inv-loop μ-loop
 loop-again c =
-    let a = c .before .before .before .before .before .before .args in
-    let p = c .before .before .before .before .before .before .pre in (
+    let turn = c .before .before in
+    let p = start turn .pre in (
       search needs,
       search needs,
-      put-turn (p .1) (p .3) _ _ _ (omega arith) (c .before .before .before .loop .inv .2)
-          (ap (λ (r : Voted). r .row) (c .vote .ensures) ∙ part-vote (a .t) (p .0) (p .1) (p .2) (omega arith) (a .heard .now) (p .4)),
+      put-turn (p .0 .high) (p .1) _ _ _ (turn .loop-test .taken) (turn .before .loop .inv .2) (c .vote-on .ensures),
     )
 
 same-length : tie.Need-same-length Inv-loop μ-loop
 same-length c = search needs
 
 returns : tie.Need-returns Inv-loop μ-loop
-returns c = put-whole (c .before .before .before .before .pre .1) (c .before .before .before .before .pre .3) _ (omega arith) (c .before .loop .inv .2)
+returns c =
+    let p = c .before .before .before .before .pre in
+    put-whole (p .0 .high) (p .1) _ (omega arith) (c .before .loop .inv .2)
 
 pub put-votes-spec : {M : Type 1} → statement M
 put-votes-spec =
@@ -84,16 +86,12 @@ put-votes-spec =
     Inv-loop
     μ-loop
     loop-holds
-    mul-from
-    add-end
-    mul-vote
-    sub-vote
-    part-vote-start
-    part-vote-end
-    vote-requires
+    mul-place
+    add-place
+    mul-vote-on
+    element-copy-out-vote-on
+    vote-on-requires
     mul-out
-    add-out
-    mul-out-2
     slice-write-out
     add-k
     loop-less

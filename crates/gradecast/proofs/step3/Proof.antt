@@ -14,16 +14,18 @@ use Rattle.gradecast.proofs.step3.Statement.{statement}
 use Rattle.gradecast.proofs.step3.Tie as tie
 
 abbrev Inv-loop : tie.InvT-loop
-Inv-loop n t faulty lists table second heard₀ out₀ i₀ heard out i =
-    (i ≤ n) ×
+Inv-loop hall lists table second heard₀ out₀ n i₀ heard out i =
+    (i ≤ hall .n) ×
     (length heard ≡ 169) ×
     (length out ≡ 169) ×
-    PlainHeard n faulty lists second heard ×
-    ((held : List ℕ) → SaidSecond n faulty lists table second held →
-    out ≡ cellsTo (i * n) n (ofSound faulty (voted n t faulty held lists table)))
+    PlainHeard (hall .n) (hall .faulty) lists second heard ×
+    ((held : List ℕ) → SaidSecond (hall .n) (hall .faulty) lists table second held →
+    out ≡
+    cellsTo (i * hall .n) (hall .n)
+    (ofSound (hall .faulty) (voted (hall .n) (hall .t) (hall .faulty) held lists table)))
 
 abbrev μ-loop : tie.MeasureT-loop
-μ-loop n t faulty lists table second heard₀ out₀ i₀ heard out i = n - i
+μ-loop hall lists table second heard₀ out₀ n i₀ heard out i = hall .n - i
 
 -- the entry, from the loop's beginning
 abbrev start : tie.After-slice-known3 Inv-loop μ-loop → tie.Start Inv-loop μ-loop
@@ -37,17 +39,17 @@ loop-holds c =
     let p = start c .pre in
     let plain = c .before .before .hear-plain in (
       search needs,
-      plain .kept .1 .1 .0 ∙ p .2,
-      ap length (p .3),
+      plain .kept .1 .1 .0 ∙ p .1,
+      ap length (p .2),
       λ k j hk hj o. plain .ensures k j hk hj,
-      λ rows e. p .3 ∙ cells-none _ _,
+      λ rows e. p .2 ∙ cells-none _ _,
     )
 
 step3-box-requires : tie.Need-step3-box-requires Inv-loop μ-loop
 step3-box-requires c κs =
     let p = start (c .before .before .before .before) .pre in
     let so-far = c .before .before .before .loop .inv in
-    (p .0, p .1, c .before .before .loop-test .taken, so-far .1, so-far .2, so-far .3)
+    (p .0, c .before .before .loop-test .taken, so-far .1, so-far .2, so-far .3)
 
 add-i : tie.Need-add-i Inv-loop μ-loop
 add-i c = search needs

@@ -1,11 +1,11 @@
 -- `gradecast::step3_box` meets its contract: a faulty box's cells are 0 as they stand; a sound box votes over the
--- columns of step 2 in the document, and the votes are its Y. What every box hears alike stays for the next box.
--- Assumes nothing.
+-- columns of step 2 in the document, or with its own word where the leader need not be counted, and the votes are its
+-- Y. What every box hears alike stays for the next box. Assumes nothing.
 use mathlib.Core.Path.{sym, _∙_}
 use native.Mathlib.Omega.{arith}
 use Rattle.sizes.proofs.Laws.{square-le}
+use Rattle.gradecast.proofs.Asked.{votes-made}
 use Rattle.gradecast.proofs.Cells.{put-nothing, put-same}
-use Rattle.gradecast.proofs.Columns.{votes-heard}
 use Rattle.gradecast.proofs.Places.{second-fits}
 use Rattle.gradecast.proofs.Sound.{of-faulty}
 use borrow.Author.Needs.{needs}
@@ -27,15 +27,15 @@ returns : tie.Need-returns
 returns c =
     let p = start (c .before) .pre in
     let is-faulty = sym (c .before .is-member .ensures) ∙ c .if1 .taken in
-    (λ rows e. put-nothing (p .0 .high) (p .2) _ (λ k l. of-faulty _ _ _ _ is-faulty), p .5)
+    (λ rows e. put-nothing (p .0 .ready .high) (p .1) _ (λ k l. of-faulty _ _ _ _ is-faulty), p .4)
 
 mul-hear-all : tie.Need-mul-hear-all
-mul-hear-all c = omega (arith, square-le (start (c .before) .pre .0 .high))
+mul-hear-all c = omega (arith, square-le (start (c .before) .pre .0 .ready .high))
 
 hear-all-requires : tie.Need-hear-all-requires
 hear-all-requires c κs =
     let p = start (c .before .before) .pre in
-    (p .0, p .2, second-fits _, p .3, p .5)
+    (p .0, p .1, second-fits _, p .2, p .4)
 
 put-votes-requires : tie.Need-put-votes-requires
 put-votes-requires c κs = search needs
@@ -52,10 +52,10 @@ returns-2 c =
     let box = h .before .before in
     let p = start (box .before) .pre in
     let is-sound = sym (box .before .is-member .ensures) ∙ box .if1 .left in
-    let size = h .hear-all .kept .1 .1 .1 .1 .1 .1 .1 .0 ∙ p .3 in (
+    let size = h .hear-all .kept .1 .1 .1 .1 .1 .1 .0 ∙ p .2 in (
       λ rows e.
-          put-same (p .0 .high) (p .2) _ _
-          (votes-heard _ _ _ _ _ _ _ _ (p .0 .high) size is-sound rows (h .hear-all .ensures .0) e)
+          put-same (p .0 .ready .high) (p .1) _ _
+          (votes-made _ _ _ _ _ _ (p .0) (p .1) size is-sound rows (h .hear-all .ensures .0) e)
           (c .before .before .put-votes .ensures),
       h .hear-all .ensures .1,
     )

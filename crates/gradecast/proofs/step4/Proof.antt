@@ -1,6 +1,6 @@
 -- `gradecast::step4` meets its contract: after i turns the grades of the boxes below i are put, and what every box
 -- hears alike is there, as it was put down before the first. What is left of n falls. Assumes nothing.
-use mathlib.Core.Path.{_≡_, ap, _∙_}
+use mathlib.Core.Path.{_≡_, sym, ap, _∙_}
 use mathlib.Core.List.{List}
 use Prim.Native.Nat.{ℕ, _*_, _-_, _≤_}
 use native.Mathlib.Omega.{arith}
@@ -14,18 +14,22 @@ use Rattle.gradecast.proofs.step4.Statement.{statement}
 use Rattle.gradecast.proofs.step4.Tie as tie
 
 abbrev Inv-loop : tie.InvT-loop
-Inv-loop n t faulty lists table third heard₀ rows₀ confidences₀ i₀ heard rows confidences i =
-    (i ≤ n) ×
+Inv-loop hall lists table third heard₀ rows₀ confidences₀ n i₀ heard rows confidences i =
+    (i ≤ hall .n) ×
     (length heard ≡ 169) ×
     (length rows ≡ 169) ×
     (length confidences ≡ 169) ×
-    PlainHeard n faulty lists third heard ×
-    ((held : List ℕ) → SaidThird n t faulty lists table third held →
-    (rows ≡ cellsTo (i * n) n (ofSound faulty (gradeRow n t faulty held lists table))) ×
-    (confidences ≡ cellsTo (i * n) n (ofSound faulty (confidence n t faulty held lists table))))
+    PlainHeard (hall .n) (hall .faulty) lists third heard ×
+    ((held : List ℕ) → SaidThird (hall .n) (hall .t) (hall .faulty) lists table third held →
+    (rows ≡
+    cellsTo (i * hall .n) (hall .n)
+    (ofSound (hall .faulty) (gradeRow (hall .n) (hall .t) (hall .faulty) held lists table))) ×
+    (confidences ≡
+    cellsTo (i * hall .n) (hall .n)
+    (ofSound (hall .faulty) (confidence (hall .n) (hall .t) (hall .faulty) held lists table))))
 
 abbrev μ-loop : tie.MeasureT-loop
-μ-loop n t faulty lists table third heard₀ rows₀ confidences₀ i₀ heard rows confidences i = n - i
+μ-loop hall lists table third heard₀ rows₀ confidences₀ n i₀ heard rows confidences i = hall .n - i
 
 -- the entry, from the loop's beginning
 abbrev start : tie.After-slice-known4 Inv-loop μ-loop → tie.Start Inv-loop μ-loop
@@ -39,18 +43,18 @@ loop-holds c =
     let p = start c .pre in
     let plain = c .before .before .hear-plain in (
       search needs,
-      plain .kept .1 .1 .0 ∙ p .2,
+      plain .kept .1 .1 .0 ∙ p .1,
+      ap length (p .2),
       ap length (p .3),
-      ap length (p .4),
       λ k j hk hj o. plain .ensures k j hk hj,
-      λ rows e. (p .3 ∙ cells-none _ _, p .4 ∙ cells-none _ _),
+      λ rows e. (p .2 ∙ cells-none _ _, p .3 ∙ cells-none _ _),
     )
 
 step4-box-requires : tie.Need-step4-box-requires Inv-loop μ-loop
 step4-box-requires c κs =
     let p = start (c .before .before .before .before .before) .pre in
     let so-far = c .before .before .before .before .loop .inv in
-    (p .0, p .1, c .before .before .before .loop-test .taken, so-far .1, so-far .2, so-far .3, so-far .4)
+    (p .0, c .before .before .before .loop-test .taken, so-far .1, so-far .2, so-far .3, so-far .4)
 
 add-i : tie.Need-add-i Inv-loop μ-loop
 add-i c = search needs
@@ -78,7 +82,7 @@ same-length : tie.Need-same-length Inv-loop μ-loop
 same-length c = search needs
 
 same-length-2 : tie.Need-same-length-2 Inv-loop μ-loop
-same-length-2 c = search needs
+same-length-2 c = c .before .loop .inv .2 ∙ sym (ap length (start (c .before .before) .pre .2))
 
 same-length-3 : tie.Need-same-length-3 Inv-loop μ-loop
 same-length-3 c = search needs

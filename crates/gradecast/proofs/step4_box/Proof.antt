@@ -1,11 +1,11 @@
 -- `gradecast::step4_box` meets its contract: a faulty box's cells are 0 as they stand; a sound box grades over the
--- columns of step 3 in the document, and the grades are those of step 4. What every box hears alike stays for the next
--- box. Assumes nothing.
+-- columns of step 3 in the document, or by its own word where the leader need not be counted, and the grades are those
+-- of step 4. What every box hears alike stays for the next box. Assumes nothing.
 use mathlib.Core.Path.{sym, _∙_}
 use native.Mathlib.Omega.{arith}
 use Rattle.sizes.proofs.Laws.{square-le, cube-le}
+use Rattle.gradecast.proofs.Asked.{rows-made, confidences-made}
 use Rattle.gradecast.proofs.Cells.{put-nothing, put-same}
-use Rattle.gradecast.proofs.Columns.{rows-heard, confidences-heard}
 use Rattle.gradecast.proofs.Places.{third-fits}
 use Rattle.gradecast.proofs.Sound.{of-faulty}
 use borrow.Author.Needs.{needs}
@@ -27,26 +27,26 @@ returns : tie.Need-returns
 returns c =
     let p = start (c .before) .pre in
     let is-faulty = sym (c .before .is-member .ensures) ∙ c .if1 .taken in (
-      λ rows e. put-nothing (p .0 .high) (p .2) _ (λ k l. of-faulty _ _ _ _ is-faulty),
-      (λ rows e. put-nothing (p .0 .high) (p .2) _ (λ k l. of-faulty _ _ _ _ is-faulty), p .6),
+      λ rows e. put-nothing (p .0 .ready .high) (p .1) _ (λ k l. of-faulty _ _ _ _ is-faulty),
+      (λ rows e. put-nothing (p .0 .ready .high) (p .1) _ (λ k l. of-faulty _ _ _ _ is-faulty), p .5),
     )
 
 mul-hear-all : tie.Need-mul-hear-all
-mul-hear-all c = let high = start (c .before) .pre .0 .high in omega (arith, square-le high, cube-le high)
+mul-hear-all c = let high = start (c .before) .pre .0 .ready .high in omega (arith, square-le high, cube-le high)
 
 mul-hear-all-2 : tie.Need-mul-hear-all-2
-mul-hear-all-2 c = let high = start (c .before) .pre .0 .high in omega (arith, square-le high, cube-le high)
+mul-hear-all-2 c = let high = start (c .before) .pre .0 .ready .high in omega (arith, square-le high, cube-le high)
 
 mul-hear-all-3 : tie.Need-mul-hear-all-3
-mul-hear-all-3 c = let high = start (c .before) .pre .0 .high in omega (arith, square-le high, cube-le high)
+mul-hear-all-3 c = let high = start (c .before) .pre .0 .ready .high in omega (arith, square-le high, cube-le high)
 
 add-hear-all : tie.Need-add-hear-all
-add-hear-all c = let high = start (c .before) .pre .0 .high in omega (arith, square-le high, cube-le high)
+add-hear-all c = let high = start (c .before) .pre .0 .ready .high in omega (arith, square-le high, cube-le high)
 
 hear-all-requires : tie.Need-hear-all-requires
 hear-all-requires c κs =
     let p = start (c .before .before) .pre in
-    (p .0, p .2, third-fits _, p .3, p .6)
+    (p .0, p .1, third-fits _, p .2, p .5)
 
 put-grades-requires : tie.Need-put-grades-requires
 put-grades-requires c κs = search needs
@@ -66,16 +66,16 @@ returns-2 c =
     let box = h .before .before in
     let p = start (box .before) .pre in
     let is-sound = sym (box .before .is-member .ensures) ∙ box .if1 .left in
-    let size = h .hear-all .kept .1 .1 .1 .1 .1 .1 .1 .0 ∙ p .3 in
+    let size = h .hear-all .kept .1 .1 .1 .1 .1 .1 .0 ∙ p .2 in
     let heard = h .hear-all .ensures .0 in
     let put = c .before .before .before .before .put-grades .ensures in (
       λ rows e.
-          put-same (p .0 .high) (p .2) _ _
-          (rows-heard _ _ _ _ _ _ _ _ (p .0 .high) size is-sound rows heard e) (put .0),
+          put-same (p .0 .ready .high) (p .1) _ _
+          (rows-made _ _ _ _ _ _ (p .0) (p .1) size is-sound rows heard e) (put .0),
       (
         λ rows e.
-            put-same (p .0 .high) (p .2) _ _
-            (confidences-heard _ _ _ _ _ _ _ _ (p .0 .high) size is-sound rows heard e) (put .1),
+            put-same (p .0 .ready .high) (p .1) _ _
+            (confidences-made _ _ _ _ _ _ (p .0) (p .1) size is-sound rows heard e) (put .1),
         h .hear-all .ensures .1,
       ),
     )

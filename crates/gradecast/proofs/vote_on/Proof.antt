@@ -1,0 +1,75 @@
+-- `gradecast::vote_on` meets its contract: the test is whether leader k is asked, and the column of one that is lies
+-- from k * n to k * n + n. Assumes nothing.
+use mathlib.Core.Path.{sym, ap, _∙_}
+use Prim.Native.Nat.{_+_, _*_, _≤_}
+use native.Mathlib.Omega.{arith}
+use lib.ListN.{length}
+use Rattle.tally.specs.declared.Voted.{Voted}
+use Rattle.gradecast.proofs.Asked.{on-asked, on-other}
+use Rattle.gradecast.proofs.Cells.{part-fits}
+use Rattle.gradecast.proofs.Columns.{part-vote}
+use borrow.Author.Needs.{needs}
+use Rattle.gradecast.proofs.vote_on.Statement.{statement}
+use Rattle.gradecast.proofs.vote_on.Tie as tie
+
+-- the entry, from behind the test of the leader
+abbrev start : tie.After-is-member → tie.Start
+start c = c .before .before
+
+-- leader k's column lies within what was heard
+column-fits : (c : tie.After-is-member) →
+    let a = start c .args in
+    a .k * a .hall .n + a .hall .n ≤ length (a .heard .now)
+column-fits c = let p = start c .pre in omega (arith, part-fits (p .0 .high) (p .1), p .2)
+
+is-member-requires : tie.Need-is-member-requires
+is-member-requires c κs = search needs
+
+mul-from : tie.Need-mul-from
+mul-from c = omega (arith, column-fits (c .before .before))
+
+add-end : tie.Need-add-end
+add-end c = omega (arith, column-fits (c .before .before .before))
+
+mul-vote : tie.Need-mul-vote
+mul-vote c = omega (arith, column-fits (c .before .before .before))
+
+sub-vote : tie.Need-sub-vote
+sub-vote c = search needs
+
+part-vote-start : tie.Need-part-vote-start
+part-vote-start c = search needs
+
+part-vote-end : tie.Need-part-vote-end
+part-vote-end c = omega (arith, column-fits (c .before .before .before))
+
+vote-requires : tie.Need-vote-requires
+vote-requires c κs = search needs
+
+returns : tie.Need-returns
+returns c =
+    let asked = c .before .before .before .before in
+    let a = start (asked .before) .args in
+    let p = start (asked .before) .pre in
+    let is-asked = sym (asked .before .is-member .ensures) ∙ asked .if1 .taken in
+    ap (λ (r : Voted). r .row) (c .vote .ensures)
+    ∙ part-vote (a .hall .t) (p .0 .low) (p .0 .high) (p .0 .tolerated) (p .1) (a .heard .now) (p .2)
+    ∙ sym (on-asked _ _ _ _ _ is-asked)
+
+returns-2 : tie.Need-returns-2
+returns-2 c = sym (on-other _ _ _ _ _ (sym (c .before .is-member .ensures) ∙ c .if1 .left))
+
+pub vote-on-spec : {M : Type 1} → statement M
+vote-on-spec =
+    tie.close
+    (tie.spec
+    is-member-requires
+    mul-from
+    add-end
+    mul-vote
+    sub-vote
+    part-vote-start
+    part-vote-end
+    vote-requires
+    returns
+    returns-2)
