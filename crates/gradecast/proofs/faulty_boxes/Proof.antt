@@ -36,7 +36,7 @@ loop-again : tie.Need-loop-again Inv-loop μ-loop
 loop-again c = (search needs, count-turn _ _ (c .before .before .loop .inv .1) (c .one-if-member .ensures))
 
 returns : tie.Need-returns Inv-loop μ-loop
-returns c = counted-whole _ (omega arith) (c .before .loop .inv .1) .0
+returns c = counted-whole {n = c .before .before .args .n} _ (omega arith) (c .before .loop .inv .1) .0
 
 pub faulty-boxes-spec : {M : Type 1} → statement M
 faulty-boxes-spec =
