@@ -1,6 +1,6 @@
--- Two files with the same heading, whose tables are refused alike and say the same of the faulty boxes, and of which both go on or
--- neither, have the same listing and the same outcome: the replies are the same after each iteration, so the first refusal is, and the
--- lines are. Files that differ only in sound senders' places are such.
+-- Two files with the same heading, whose tables are refused alike and say the same of the faulty boxes, and of which
+-- both go on or neither, have the same listing and the same outcome: the replies are the same after each iteration,
+-- so the first refusal is, and the lines are. Files that differ only in sound senders' places are such.
 -- Assumes nothing.
 use mathlib.Core.Path.{_≡_, refl, sym, ap, ap₂, subst, _∙_}
 use mathlib.Core.Bool.{Bool, true, false, cond, _&&_}
@@ -180,7 +180,8 @@ module _ (a b : List ℕ) (s : Alike a b) where
       ap₂ (λ (xs : List ℕ) (r : Next). xs ++ lastLine (r .refusal) (r .run .sent)) first-alike alike-outcome
 
 -- a table is refused by how many bytes it has
-refusal-same : (n : ℕ) (xs ys : List ℕ) (room : ℕ) → length xs ≡ length ys → tableRefusal n xs room ≡ tableRefusal n ys room
+refusal-same : (n : ℕ) (xs ys : List ℕ) (room : ℕ) → length xs ≡ length ys →
+    tableRefusal n xs room ≡ tableRefusal n ys room
 unfolding tableRefusal tableTests
 refusal-same n xs ys room e = rw e refl
 

@@ -1,5 +1,5 @@
--- A heading that is not refused: what it says, its n rows, and that a start takes them; so a file is refused in place of the line `run`
--- exactly where its heading is, and the state before the first iteration is the start's.
+-- A heading that is not refused: what it says, its n rows, and that a start takes them; so a file is refused in place
+-- of the line `run` exactly where its heading is, and the state before the first iteration is the start's.
 -- Assumes nothing.
 use mathlib.Core.Path.{_≡_, refl, sym, ap, subst, _∙_}
 use mathlib.Core.Bool.{Bool, true, false, cond}
@@ -102,7 +102,8 @@ module _ (bytes : List ℕ) (ok : heading bytes .refusal ≡ 0) where
   unfolding replyAfter after startReply
   start-passes = starts
 
-  pub start-state : stateAfter bytes 0 ≡ startRun (heading bytes .n) (heading bytes .t) (heading bytes .faulty) (rowsOf bytes)
+  pub start-state : stateAfter bytes 0
+      ≡ startRun (heading bytes .n) (heading bytes .t) (heading bytes .faulty) (rowsOf bytes)
   unfolding stateAfter replyAfter after startReply
   start-state = cond-true _ zeros (eq-eqb _ 0 starts)
 

@@ -1,6 +1,6 @@
--- A file's run underway: after m iterations the state is the one that the definitions give, no table before was refused, and the file
--- has that many whole tables. The next table leads on or is refused; so the run stops where the listing ends.
--- Assumes nothing.
+-- A file's run underway: after m iterations the state is the one that the definitions give, no table before was
+-- refused, and the file has that many whole tables. The next table leads on or is refused; so the run stops where the
+-- listing ends. Assumes nothing.
 use mathlib.Core.Path.{_≡_, refl, sym, ap, ap₂, subst, _∙_}
 use mathlib.Core.Bool.{Bool, true, false, cond, _&&_}
 use mathlib.Core.List.{List, _++_}

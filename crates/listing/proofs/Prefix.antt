@@ -1,6 +1,6 @@
--- Only the first 182,634 bytes of a file matter. A shorter file is its own beginning. Of a longer one the beginning has the same heading,
--- which lies in the first 113 bytes; the tables that are due lie before byte 182,633; and both go on past the last table.
--- Assumes nothing.
+-- Only the first 182,634 bytes of a file matter. A shorter file is its own beginning. Of a longer one the beginning
+-- has the same heading, which lies in the first 113 bytes; the tables that are due lie before byte 182,633; and both
+-- go on past the last table. Assumes nothing.
 use mathlib.Core.Path.{_≡_, refl, sym, ap, ap₂, subst, _∙_}
 use mathlib.Core.Bool.{Bool, true, false, cond, not, _&&_}
 use mathlib.Core.List.{List, [], _∷_}
@@ -30,7 +30,8 @@ use Rattle.listing.proofs.Heading.{heading-good, heading-high, heading-
 use Rattle.listing.proofs.Alike.{Alike, alike-listing, alike-outcome}
 
 -- a number that lies within the first k bytes
-number-take : (k : ℕ) (bytes : List ℕ) (at size : ℕ) → at + size ≤ k → number (take k bytes) at size ≡ number bytes at size
+number-take : (k : ℕ) (bytes : List ℕ) (at size : ℕ) → at + size ≤ k →
+    number (take k bytes) at size ≡ number bytes at size
 unfolding number
 number-take k bytes at zero l = refl
 number-take k bytes at (suc size) l =
@@ -44,7 +45,8 @@ part-take k bytes at size l h =
     let short = length-take-le k bytes h in
     let a = drop at (take k bytes) in
     let b = drop at bytes in
-    let la : length (take size a) ≡ size = length-take-le size a (omega (arith, length-drop at (take k bytes), short)) in
+    let la : length (take size a) ≡ size =
+    length-take-le size a (omega (arith, length-drop at (take k bytes), short)) in
     let lb : length (take size b) ≡ size = length-take-le size b (omega (arith, length-drop at bytes)) in
     ext-getD 0 (take size a) (take size b) (la ∙ sym lb)
     (λ i li.

@@ -1,8 +1,8 @@
 -- How long a listing can be. A line `run` has 14 bytes at most: n is at most 13, t at most 4, a set of boxes below
--- 8,192. A line `at` has 34 at most: iteration at most 5, box at most 13, row below 2 to the 64, list below 8,192; and
--- there are at most 13 boxes in each of at most 5 iterations. The last line has 11 at most: at most 22,815 messages,
--- or a refusal below 100. That is 14 + 65 * 34 + 11. Rows are so small because a row of the file is 8 bytes, and a
--- run makes no row that was not given.
+-- 8,192. A line `at` has 34 at most: iteration at most 5, box at most 13, row below 2 to the 64, list below 8,192;
+-- and there are at most 13 boxes in each of at most 5 iterations. The last line has 11 at most: at most 22,815
+-- messages, or a refusal below 100. That is 14 + 65 * 34 + 11. Rows are so small because a row of the file is 8
+-- bytes, and a run makes no row that was not given.
 -- Assumes nothing.
 use mathlib.Core.Path.{_≡_, refl, sym, ap, subst, _∙_}
 use mathlib.Core.Bool.{Bool, true, false, cond, _&&_}

@@ -1,6 +1,6 @@
--- The rows of one sender stand in three parts of a table: n of step 1, then n² of step 2 and n² of step 3. Reading a part puts the
--- table's rows to its places and takes none away from any other place; so three parts read one after the other are the sender's rows,
--- and those of all faulty senders are all that an iteration reads of the table.
+-- The rows of one sender stand in three parts of a table: n of step 1, then n² of step 2 and n² of step 3. Reading a
+-- part puts the table's rows to its places and takes none away from any other place; so three parts read one after
+-- the other are the sender's rows, and those of all faulty senders are all that an iteration reads of the table.
 -- Assumes nothing.
 use mathlib.Core.Path.{_≡_, sym, ap, subst, _∙_}
 use mathlib.Core.Bool.{true}

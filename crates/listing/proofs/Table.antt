@@ -1,5 +1,5 @@
--- The next table of a file: its bytes are whole or cut short by how many are left; and an iteration with the rows of the faulty senders
--- alone gives the reply of the whole table, since it reads no others.
+-- The next table of a file: its bytes are whole or cut short by how many are left; and an iteration with the rows of
+-- the faulty senders alone gives the reply of the whole table, since it reads no others.
 -- Assumes nothing.
 use mathlib.Core.Path.{_≡_, refl, sym, ap, subst, _∙_}
 use mathlib.Core.List.{List, []}

@@ -1,7 +1,7 @@
--- A file that is taken, that is, whose listing ends with `sent`: all its iterations are done, and the outcome is the state after them. So
--- what the agreement promises of a run, demand 3, it promises of the file. And how a listing ends: with `sent` and the outcome's messages
--- where the outcome has no refusal, with `refused` and its number where it has one, and never with both.
--- Assumes nothing.
+-- A file that is taken, that is, whose listing ends with `sent`: all its iterations are done, and the outcome is the
+-- state after them. So what the agreement promises of a run, demand 3, it promises of the file. And how a listing
+-- ends: with `sent` and the outcome's messages where the outcome has no refusal, with `refused` and its number where
+-- it has one, and never with both. Assumes nothing.
 use mathlib.Core.Path.{_≡_, refl, sym, ap, subst, _∙_}
 use mathlib.Core.Bool.{Bool, true, false, cond, _&&_}
 use mathlib.Core.List.{List, [], _∷_, _++_}
@@ -84,7 +84,8 @@ module _ (bytes : List ℕ) where
     unfolding doneOf
     all-done = go (passed-ends (refusedAt bytes) (due bytes)) later
       where
-        go : Ends (refusedAt bytes) (due bytes) → refusedLater bytes ≡ 0 → passed (refusedAt bytes) (due bytes) ≡ due bytes
+        go : Ends (refusedAt bytes) (due bytes) → refusedLater bytes ≡ 0 →
+            passed (refusedAt bytes) (due bytes) ≡ due bytes
         go (Ends.all e) z = e
         go (Ends.one l h) z = absurd (h (early bytes l z))
 

@@ -1,5 +1,5 @@
--- A text that is put together in a slice: nothing is put, a line is put, one text is put behind another; and how long a line can be
--- by what its numbers can be.
+-- A text that is put together in a slice: nothing is put, a line is put, one text is put behind another; and how long
+-- a line can be by what its numbers can be.
 -- Assumes nothing.
 use mathlib.Core.Path.{_≡_, refl, sym, ap, _∙_}
 use mathlib.Core.List.{List, [], _∷_, _++_}
@@ -20,7 +20,8 @@ pub put-nothing : (xs : List ℕ) (at : ℕ) → Put xs xs at at []
 put-nothing xs at = record { ends = sym (add-zero at); stands = placed-none xs at }
 
 -- what the call that puts a line says, where a line so long at most has its place
-pub put-line : (word numbers xs ys : List ℕ) (at end most : ℕ) → length (lineOf word numbers) ≤ most → at + most ≤ length xs →
+pub put-line : (word numbers xs ys : List ℕ) (at end most : ℕ) → length (lineOf word numbers) ≤ most →
+    at + most ≤ length xs →
     end ≡ at + lineReply word numbers (length xs - at) .size →
     ys ≡ take at xs ++ lineWrites word numbers (drop at xs) →
     Put xs ys at end (lineOf word numbers) × (end ≤ at + most)
@@ -45,7 +46,8 @@ put-then {xs} {ys} {zs} {s} {t} {at} {mid} {end} p q fits =
 pub put-long : {xs ys s : List ℕ} {at end : ℕ} → Put xs ys at end s → end ≤ length xs → length ys ≡ length xs
 put-long {xs} {ys} {s} {at} {end} p fits = ap length (p .stands) ∙ placed-length xs at s (omega (arith, p .ends))
 
--- how long the lines can be, by the bits of their numbers: 8 of them are at most 3 digits, 16 at most 5 and 64 at most 20
+-- how long the lines can be, by the bits of their numbers: 8 of them are at most 3 digits, 16 at most 5 and 64 at
+-- most 20
 digits8 : (n : ℕ) → n < 2 ^ 8 → length (decimal n) ≤ 3
 digits8 n h = decimal-most 2 n (omega arith)
 

@@ -1,6 +1,6 @@
--- The whole listing put together: the line of the start and those of the iterations are the lines before the last, and with the last they
--- are the listing; a file whose heading is refused has none but the last; and the listing is copied to a slice that has room for it.
--- Assumes nothing.
+-- The whole listing put together: the line of the start and those of the iterations are the lines before the last,
+-- and with the last they are the listing; a file whose heading is refused has none but the last; and the listing is
+-- copied to a slice that has room for it. Assumes nothing.
 use mathlib.Core.Path.{_≡_, refl, sym, ap, ap₂, subst, _∙_}
 use mathlib.Core.Bool.{Bool, true, false, cond}
 use mathlib.Core.List.{List, [], _++_}
@@ -72,7 +72,8 @@ module _ (bytes : List ℕ) where
         ∙ sym (cond-true _ _ (eq-eqb _ 0 ok))
 
   -- the last line behind the others
-  pub with-last : (r : Next) → r ≡ outcomeOf bytes → firstLines bytes ++ lastLine (r .refusal) (r .run .sent) ≡ listingOf bytes
+  pub with-last : (r : Next) → r ≡ outcomeOf bytes →
+      firstLines bytes ++ lastLine (r .refusal) (r .run .sent) ≡ listingOf bytes
   unfolding listingOf
   with-last r e = ap (λ (q : Next). firstLines bytes ++ lastLine (q .refusal) (q .run .sent)) e
 

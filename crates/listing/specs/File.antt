@@ -1,5 +1,5 @@
--- A run file as a run: its heading, its tables as a function of the iteration, and the replies that they lead to. Iterations count
--- from 0 here: table m is the one behind m others.
+-- A run file as a run: its heading, its tables as a function of the iteration, and the replies that they lead to.
+-- Iterations count from 0 here: table m is the one behind m others.
 use Prim.Native.Nat.{ℕ, suc, _+_, _*_}
 use mathlib.Core.Bool.{Bool, cond}
 use mathlib.Core.List.{List}
@@ -34,8 +34,8 @@ bytesOf n bytes m = take (tableBytes n) (drop (tableBegins n m) bytes)
 unfoldable pub tableOf : ℕ → List ℕ → ℕ → List ℕ
 tableOf n bytes m = build (tableRows n) (tableRow (bytesOf n bytes m))
 
--- the refusal in place of the lines `at` of table m: the table's, which is read to a slice with room for the largest, or else that
--- of the iteration's reply
+-- the refusal in place of the lines `at` of table m: the table's, which is read to a slice with room for the largest,
+-- or else that of the iteration's reply
 unfoldable pub refusedTable : ℕ → List ℕ → ℕ → ℕ → ℕ
 refusedTable n bytes m reply = orElse (tableRefusal n (bytesOf n bytes m) 4563) reply
 

@@ -14,7 +14,8 @@ use Rattle.listing.specs.Listing.{outcomeOf}
 abbrev pub enough : ℕ
 enough = 182634
 
--- two files that differ only in sound senders' places: as long, the same heading, and in each table the same rows of faulty senders
+-- two files that differ only in sound senders' places: as long, the same heading, and in each table the same rows of
+-- faulty senders
 pub record SameButSound (a b : List ℕ) : Type 0 where
   pub same-length : length a ≡ length b
   pub same-heading : heading a ≡ heading b
@@ -22,8 +23,8 @@ pub record SameButSound (a b : List ℕ) : Type 0 where
   pub same-lies : (m : ℕ) → m < due a →
       SameLies (heading a .n) (heading a .faulty) (tableOf (heading a .n) a m) (tableOf (heading a .n) b m)
 
--- demand 3 of a file: in the outcome's state all sound boxes hold the same row, a common start stays, and no sound box is on a sound
--- box's list
+-- demand 3 of a file: in the outcome's state all sound boxes hold the same row, a common start stays, and no sound
+-- box is on a sound box's list
 pub record Demand3Of (bytes : List ℕ) : Type 0 where
   pub agrees : SameRow (heading bytes .n) (heading bytes .faulty) (outcomeOf bytes .run .rows)
   pub valid : (v : ℕ) → AllHold (heading bytes .n) (heading bytes .faulty) (rowsOf bytes) v →

@@ -34,7 +34,8 @@ pub record Keeps (bytes table last : List ℕ) : Type 0 where
 abbrev pub TakenTo : ℕ → ℕ → List ℕ → List ℕ → ℕ → Type 0
 TakenTo n faulty bytes table k = (j : ℕ) → j < k → member faulty j ≡ true → Taken n bytes table j
 
--- a state that comes out of a file so far: n and the iterations done are small, and the tables before the next are whole
+-- a state that comes out of a file so far: n and the iterations done are small, and the tables before the next are
+-- whole
 pub record Underway (s : Run) (bytes : List ℕ) : Type 0 where
   pub low : 1 ≤ s .n
   pub high : s .n ≤ 13
@@ -43,7 +44,8 @@ pub record Underway (s : Run) (bytes : List ℕ) : Type 0 where
 
 -- the reply to the next table of a file: its refusal, and where there is none the iteration's state
 pub record Advanced (s : Run) (bytes : List ℕ) (r : Next) : Type 0 where
-  pub number : r .refusal ≡ refusedTable (s .n) bytes (s .done) (iterateReply s (tableOf (s .n) bytes (s .done)) .refusal)
+  pub number : r .refusal
+      ≡ refusedTable (s .n) bytes (s .done) (iterateReply s (tableOf (s .n) bytes (s .done)) .refusal)
   pub state : r .refusal ≡ 0 → r .run ≡ iterateReply s (tableOf (s .n) bytes (s .done)) .run
 
 -- a text was put at a place of a slice, and end is the place behind it

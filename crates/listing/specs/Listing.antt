@@ -1,5 +1,5 @@
--- The listing of a run file and its outcome, as document 01 has them under "The program and one listing in full". A text is a list of
--- bytes; boxes count from 0 here, and from 1 in the text.
+-- The listing of a run file and its outcome, as document 01 has them under "The program and one listing in full". A
+-- text is a list of bytes; boxes count from 0 here, and from 1 in the text.
 use Prim.Native.Nat.{ℕ, zero, suc, _+_}
 use mathlib.Core.Bool.{Bool, cond, _&&_}
 use mathlib.Core.List.{List, [], _∷_, _++_}
@@ -66,7 +66,8 @@ module _ (bytes : List ℕ) where
   iterationLines zero = []
   iterationLines (suc m) = iterationLines m ++ boxLines (stateAfter bytes (suc m)) (stateAfter bytes (suc m) .n)
 
-  -- the refusal behind the line `run`: of the first iteration that is refused, or 8 where the file goes on past the last table
+  -- the refusal behind the line `run`: of the first iteration that is refused, or 8 where the file goes on past the
+  -- last table
   unfoldable pub refusedLater : ℕ
   refusedLater = cond (ltb doneOf (due bytes)) (refusedAt bytes doneOf) (cond (goesOn bytes) 8 0)
 
@@ -90,7 +91,8 @@ module _ (bytes : List ℕ) where
   unfoldable pub listingOf : List ℕ
   listingOf = firstLines ++ lastLine (outcomeOf .refusal) (outcomeOf .run .sent)
 
-  -- the reply of a listing to a slice of so many bytes: refusal 10 where the text does not fit, else its size and how it ends
+  -- the reply of a listing to a slice of so many bytes: refusal 10 where the text does not fit, else its size and how
+  -- it ends
   unfoldable pub listReply : ℕ → Listed
   listReply room =
       cond (ltb room (length listingOf))

@@ -1,4 +1,5 @@
-// The listing of a whole run file, from its bytes to the text, and the state in which its run ends. Boxes count from 0.
+// The listing of a whole run file, from its bytes to the text, and the state in which its run ends. Boxes count from
+// 0.
 use run::Next;
 use run::Run;
 ghost use mathlib.Core.Path.{_≡_};
@@ -35,11 +36,12 @@ ghost use Rattle.listing.specs.Listing.{
   listWrites,
 };
 
-// Enough for any listing by the widths of its numbers alone: 18 bytes for the line `run`, 37 for each of 65 lines `at`, 26 for the last.
+// Enough for any listing by the widths of its numbers alone: 18 bytes for the line `run`, 37 for each of 65 lines
+// `at`, 26 for the last.
 const TEXT_BYTES: usize = 2449;
 
-// The reply of a listing: the refusal's number, or 0 with the number of bytes written and the refusal with which the listing ends,
-// 0 where it ends with `sent`.
+// The reply of a listing: the refusal's number, or 0 with the number of bytes written and the refusal with which the
+// listing ends, 0 where it ends with `sent`.
 pub struct Listed {
     pub refusal: u8,
     pub size: usize,
@@ -55,7 +57,8 @@ struct Told {
 // Takes the rows of one sender from the bytes of a table, those of each step, each to its place.
 fn take_sender(n: usize, sender: usize, bytes: &[u8], table: &mut [u64])
     requires { ⌜ (n ≤ 13) × (sender < n) × (length (now bytes) ≡ tableBytes n) × (length (now table) ≡ 4563) ⌝ }
-    ensures { λ r. ⌜ Taken n (now (bytes .entry)) (now (table .exit)) sender × Keeps (now (bytes .entry)) (now (table .entry)) (now (table .exit)) ⌝ }
+    ensures { λ r. ⌜ Taken n (now (bytes .entry)) (now (table .exit)) sender ×
+        Keeps (now (bytes .entry)) (now (table .entry)) (now (table .exit)) ⌝ }
 {
     let square = n * n;
     let cube = square * n;
@@ -68,14 +71,16 @@ fn take_sender(n: usize, sender: usize, bytes: &[u8], table: &mut [u64])
 // Takes the rows of a sender that is named faulty, and leaves those of any other.
 fn take_if_faulty(n: usize, faulty: u16, sender: usize, bytes: &[u8], table: &mut [u64])
     requires { ⌜ (n ≤ 13) × (sender < n) × (length (now bytes) ≡ tableBytes n) × (length (now table) ≡ 4563) ⌝ }
-    ensures { λ r. ⌜ (member faulty sender ≡ true → Taken n (now (bytes .entry)) (now (table .exit)) sender) × Keeps (now (bytes .entry)) (now (table .entry)) (now (table .exit)) ⌝ }
+    ensures { λ r. ⌜ (member faulty sender ≡ true → Taken n (now (bytes .entry)) (now (table .exit)) sender) ×
+        Keeps (now (bytes .entry)) (now (table .entry)) (now (table .exit)) ⌝ }
 {
     if sizes::is_member(faulty, sender) {
         take_sender(n, sender, bytes, table);
     }
 }
 
-// Takes the rows of all faulty senders from the bytes of a table. A sound sender's places are never read, so they need not be there.
+// Takes the rows of all faulty senders from the bytes of a table. A sound sender's places are never read, so they
+// need not be there.
 fn take_faulty(n: usize, faulty: u16, bytes: &[u8], table: &mut [u64])
     requires { ⌜ (n ≤ 13) × (length (now bytes) ≡ tableBytes n) × (length (now table) ≡ 4563) ⌝ }
     ensures { λ r. ⌜ TakenTo n faulty (now (bytes .entry)) (now (table .exit)) n ⌝ }
@@ -188,7 +193,8 @@ fn end_refusal(s: Run, bytes: &[u8]) -> u8
 // All iterations, and the lines after each, until a table is refused or none is due.
 fn tell_iterations(first: Run, bytes: &[u8], table: &mut [u64], text: &mut [u8], at: usize) -> Told
     requires { ⌜ Started first (now bytes) × (length (now table) ≡ 4563) × (at + 2405 ≤ length (now text)) ⌝ }
-    ensures { λ r. ⌜ ToldBy (now (bytes .entry)) (now (text .entry)) (now (text .exit)) at (iterationLines (now (bytes .entry)) (doneOf (now (bytes .entry)))) r × (r .size ≤ at + 2405) ⌝ }
+    ensures { λ r. ⌜ ToldBy (now (bytes .entry)) (now (text .entry)) (now (text .exit)) at
+        (iterationLines (now (bytes .entry)) (doneOf (now (bytes .entry)))) r × (r .size ≤ at + 2405) ⌝ }
 {
     let mut s = first;
     let mut size = at;
@@ -220,7 +226,8 @@ fn put_run(n: u8, t: u8, faulty: u16, text: &mut [u8]) -> usize
 // The outcome of a file, and all lines but the last.
 fn tell_lines(bytes: &[u8], table: &mut [u64], text: &mut [u8]) -> Told
     requires { ⌜ (length (now table) ≡ 4563) × (length (now text) ≡ 2449) ⌝ }
-    ensures { λ r. ⌜ ToldBy (now (bytes .entry)) (now (text .entry)) (now (text .exit)) 0 (firstLines (now (bytes .entry))) r × (r .size ≤ 2423) ⌝ }
+    ensures { λ r. ⌜ ToldBy (now (bytes .entry)) (now (text .entry)) (now (text .exit)) 0
+        (firstLines (now (bytes .entry))) r × (r .size ≤ 2423) ⌝ }
 {
     let first = begin(bytes);
     if first.refusal != 0 {
@@ -248,7 +255,8 @@ fn put_last(refusal: u8, sent: u64, text: &mut [u8], at: usize) -> usize
 // The outcome of a file, and its whole listing.
 fn tell(bytes: &[u8], text: &mut [u8]) -> Told
     requires { ⌜ length (now text) ≡ 2449 ⌝ }
-    ensures { λ r. ⌜ ToldBy (now (bytes .entry)) (now (text .entry)) (now (text .exit)) 0 (listingOf (now (bytes .entry))) r × (r .size ≤ 2449) ⌝ }
+    ensures { λ r. ⌜ ToldBy (now (bytes .entry)) (now (text .entry)) (now (text .exit)) 0
+        (listingOf (now (bytes .entry))) r × (r .size ≤ 2449) ⌝ }
 {
     let mut table = [0u64; 4563];
     let told = tell_lines(bytes, &mut table, text);
@@ -280,8 +288,8 @@ pub fn list(bytes: &[u8], out: &mut [u8]) -> Listed
     }
 }
 
-// The outcome of a whole file: the refusal with which its listing ends, 0 where it ends with `sent`, and the last state, zeros where
-// the file is refused.
+// The outcome of a whole file: the refusal with which its listing ends, 0 where it ends with `sent`, and the last
+// state, zeros where the file is refused.
 pub fn outcome(bytes: &[u8]) -> Next
     ensures { λ r. ⌜ r ≡ outcomeOf (now (bytes .entry)) ⌝ }
 {

@@ -1,5 +1,6 @@
--- A part of a table: a call that is not refused has its rows in the bytes and room in the slice, a refused one leaves the slice, and
--- afterwards each place of the part holds the table's row of that place and every other place what it held. Assumes nothing.
+-- A part of a table: a call that is not refused has its rows in the bytes and room in the slice, a refused one leaves
+-- the slice, and afterwards each place of the part holds the table's row of that place and every other place what it
+-- held. Assumes nothing.
 use mathlib.Core.Path.{_≡_, sym, ap, _∙_}
 use mathlib.Core.List.{List, [], _++_}
 use mathlib.Core.Logic.{⊎-elim}
@@ -30,7 +31,8 @@ part-accepted from count bytes room h =
     record { within = ltb-false _ _ (a8 .0); enough = ltb-false _ _ (a10 .0) }
 
 -- and a part that passes them is not refused
-pub part-passes : (from count : ℕ) (bytes : List ℕ) (room : ℕ) → 8 * (from + count) ≤ length bytes → from + count ≤ room →
+pub part-passes : (from count : ℕ) (bytes : List ℕ) (room : ℕ) → 8 * (from + count) ≤ length bytes →
+    from + count ≤ room →
     partRefusal from count bytes room ≡ 0
 unfolding partRefusal partTests
 part-passes from count bytes room w e = passed 8 _ (le-ltb _ _ w) ∙ passed 10 [] (le-ltb _ _ e) ∙ none-left
@@ -107,7 +109,8 @@ module _ (from count : ℕ) (bytes slice : List ℕ) (fits : from + count ≤ le
       ∙ ap (λ (q : ℕ). getD slice q 0) back
 
   -- so a place that held the table's row holds it still
-  pub part-keeps : (p : ℕ) → getD slice p 0 ≡ tableRow bytes p → getD (partOf from count bytes slice) p 0 ≡ tableRow bytes p
+  pub part-keeps : (p : ℕ) → getD slice p 0 ≡ tableRow bytes p →
+      getD (partOf from count bytes slice) p 0 ≡ tableRow bytes p
   part-keeps p e =
       ⊎-elim
       (λ t. before-part p (ltb-true p from t) ∙ e)

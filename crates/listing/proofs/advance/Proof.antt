@@ -1,5 +1,6 @@
--- `listing::advance` meets its contract: a table that is not whole is refused by 8. Of a whole one the faulty senders' rows are taken,
--- and an iteration reads no others, so its reply is that of the whole table. Assumes nothing.
+-- `listing::advance` meets its contract: a table that is not whole is refused by 8. Of a whole one the faulty
+-- senders' rows are taken, and an iteration reads no others, so its reply is that of the whole table. Assumes
+-- nothing.
 use mathlib.Core.Path.{_≡_, refl, sym, ap, _∙_}
 use Prim.Native.Nat.{_+_, _*_, _≤_}
 use native.Mathlib.Omega.{arith}
@@ -30,7 +31,8 @@ begins-of c = c .before .before .before .before .before
 table-long : (c : tie.After-take-faulty) → length (c .take-faulty .last .1 .1 .1 .0) ≡ 4563
 table-long c = c .take-faulty .kept .1 .1 .1 .0 ∙ start-of (begins-of c) .pre .1
 
-rows-fit : (c : tie.After-take-faulty) → begins-of c .before .table-rows .result ≤ length (c .take-faulty .last .1 .1 .1 .0)
+rows-fit : (c : tie.After-take-faulty) →
+    begins-of c .before .table-rows .result ≤ length (c .take-faulty .last .1 .1 .1 .0)
 rows-fit c = omega (arith, table-long c, rows-of (begins-of c .before), table-le (start-of (begins-of c) .pre .0 .high))
 
 table-rows-requires : tie.Need-table-rows-requires
@@ -74,7 +76,8 @@ take-faulty-requires c κs =
     let from = b .begins .result in
     let end = from + 8 * b .before .table-rows .result in
     let bytes = start-of b .args .bytes .now in
-    let within : end ≤ length bytes = omega (arith, c .before .before .before .if1 .left, start-of b .pre .0 .behind, b .begins .ensures .0) in
+    let within : end ≤ length bytes =
+    omega (arith, c .before .before .before .if1 .left, start-of b .pre .0 .behind, b .begins .ensures .0) in
     let long = mid-len from end bytes within in
     (start-of b .pre .0 .high, omega (arith, long, rows-of (b .before)), start-of b .pre .1)
 

@@ -1,5 +1,5 @@
--- `listing::begin` meets its contract: a refused heading is the refusal, and otherwise the start is made of what the heading says and of
--- the n rows that it wrote. Assumes nothing.
+-- `listing::begin` meets its contract: a refused heading is the refusal, and otherwise the start is made of what the
+-- heading says and of the n rows that it wrote. Assumes nothing.
 use mathlib.Core.Path.{_≡_, refl, sym, ap, _∙_}
 use mathlib.Core.List.{List}
 use Prim.Native.Nat.{ℕ, _≤_}
@@ -15,7 +15,8 @@ use Rattle.listing.proofs.begin.Statement.{statement}
 use Rattle.listing.proofs.begin.Tie as tie
 
 -- the reply of the heading reader is what the heading says
-is-heading : (c : tie.After-read-heading) → c .read-heading .result ≡ heading (c .before .before .before .args .bytes .now)
+is-heading : (c : tie.After-read-heading) →
+    c .read-heading .result ≡ heading (c .before .before .before .args .bytes .now)
 unfolding heading
 is-heading c = c .read-heading .ensures .0
 

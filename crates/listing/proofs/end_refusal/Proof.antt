@@ -1,4 +1,5 @@
--- `listing::end_refusal` meets its contract: it holds the file's length against the place behind the tables. Assumes nothing.
+-- `listing::end_refusal` meets its contract: it holds the file's length against the place behind the tables. Assumes
+-- nothing.
 use borrow.Author.Tests.{lt-ltb, le-ltb}
 use mathlib.Core.Path.{_≡_, refl}
 use borrow.Author.Needs.{needs}

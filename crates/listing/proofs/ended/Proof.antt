@@ -1,4 +1,5 @@
--- `listing::ended` meets its contract: a refusal comes with a state of zeros, and 0 with the last state. Assumes nothing.
+-- `listing::ended` meets its contract: a refusal comes with a state of zeros, and 0 with the last state. Assumes
+-- nothing.
 use mathlib.Core.Path.{_≡_, refl}
 use borrow.Author.Tests.{eq-eqb, ne-eqb}
 use Rattle.listing.specs.Listing.{endedBy}

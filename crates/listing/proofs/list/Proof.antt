@@ -1,5 +1,5 @@
--- `listing::list` meets its contract: the listing is put together apart, so that a slice that is too short stays as it is; one that has
--- room takes it at its front. Assumes nothing.
+-- `listing::list` meets its contract: the listing is put together apart, so that a slice that is too short stays as
+-- it is; one that has room takes it at its front. Assumes nothing.
 use mathlib.Core.Path.{_≡_, refl, sym, ap, _∙_}
 use mathlib.Core.List.{List}
 use Prim.Native.Nat.{ℕ, _≤_, _<_}
@@ -61,7 +61,8 @@ returns-2 c =
     let t = c .before .before .before .before .before .before .before in
     let bytes = bytes-of t in
     let out = t .before .before .before .before .args .out .now in
-    let fits : length (listingOf bytes) ≤ length out = omega (arith, size-of t, c .before .before .before .before .before .if1 .left) in
+    let fits : length (listingOf bytes) ≤ length out =
+    omega (arith, size-of t, c .before .before .before .before .before .if1 .left) in
     let ends = ap (λ (r : Next). r .refusal) (t .tell .ensures .0 .outcome) ∙ outcome-ends bytes in (
       list-given bytes _ _ _ fits (size-of t) ends,
       list-copied bytes _ out _ (told t .1) fits (c .before .before .copy .ensures .1),

@@ -1,4 +1,5 @@
--- `listing::outcome` meets its contract: it is the outcome of the listing, whose text is put together and left. Assumes nothing.
+-- `listing::outcome` meets its contract: it is the outcome of the listing, whose text is put together and left.
+-- Assumes nothing.
 use mathlib.Core.Path.{_≡_, sym, _∙_}
 use borrow.Author.Needs.{needs}
 use Rattle.listing.proofs.outcome.Statement.{statement}

@@ -1,5 +1,5 @@
--- `listing::put_at` meets its contract: the numbers have at most 3, 2, 20 and 5 digits, so the line has its place, and there it is put.
--- Assumes nothing.
+-- `listing::put_at` meets its contract: the numbers have at most 3, 2, 20 and 5 digits, so the line has its place,
+-- and there it is put. Assumes nothing.
 use mathlib.Core.List.{[], _∷_}
 use Prim.Native.Nat.{_+_}
 use Rattle.listing.specs.Listing.{at-word, atLine}

@@ -1,4 +1,5 @@
--- `listing::put_box` meets its contract: a faulty box has no line, and a sound one has the line of its row and its list. Assumes nothing.
+-- `listing::put_box` meets its contract: a faulty box has no line, and a sound one has the line of its row and its
+-- list. Assumes nothing.
 use mathlib.Core.Path.{sym, _∙_}
 use Rattle.counting.proofs.Bools.{not-of-true, not-of-false}
 use Rattle.sizes.specs.Sizes.{sound}

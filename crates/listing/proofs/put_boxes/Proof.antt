@@ -1,5 +1,5 @@
--- `listing::put_boxes` meets its contract: after each turn the lines of the boxes before this one stand there, 37 bytes at most for each.
--- What falls is the number of boxes left. Assumes nothing.
+-- `listing::put_boxes` meets its contract: after each turn the lines of the boxes before this one stand there, 37
+-- bytes at most for each. What falls is the number of boxes left. Assumes nothing.
 use mathlib.Core.Path.{_≡_, refl, sym, ap, _∙_, subst}
 use mathlib.Core.List.{List}
 use Prim.Native.Nat.{ℕ, _+_, _-_, _*_, _≤_}
@@ -43,7 +43,8 @@ loop-again c =
     let d = c .before .before .before .before .before in
     let a = d .before .before .before .args in
     let inv = d .loop .inv in
-    let room : c .before .before .put-box .result ≤ length (a .text .now) = omega (arith, e .1, inv .3, d .before .before .before .pre) in
+    let room : c .before .before .put-box .result ≤ length (a .text .now) =
+    omega (arith, e .1, inv .3, d .before .before .before .pre) in
     let put = put-then (inv .2) (e .0) room in (
       search needs,
       put-long put room,

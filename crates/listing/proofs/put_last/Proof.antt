@@ -1,5 +1,5 @@
--- `listing::put_last` meets its contract: a refusal has at most 3 digits and the messages at most 20, so the line has its place, and there
--- it is put. Assumes nothing.
+-- `listing::put_last` meets its contract: a refusal has at most 3 digits and the messages at most 20, so the line has
+-- its place, and there it is put. Assumes nothing.
 use mathlib.Core.List.{[], _∷_}
 use borrow.Author.Tests.{eq-eqb, ne-eqb}
 use Rattle.listing.specs.Listing.{sent-word, refused-word, lastLine}

@@ -1,5 +1,5 @@
--- `listing::put_run` meets its contract: the numbers have at most 3, 3 and 5 digits, so the line has its place, and there it is put.
--- Assumes nothing.
+-- `listing::put_run` meets its contract: the numbers have at most 3, 3 and 5 digits, so the line has its place, and
+-- there it is put. Assumes nothing.
 use mathlib.Core.List.{[], _∷_}
 use Rattle.listing.specs.Listing.{run-word, runLine}
 use Rattle.listing.proofs.Text.{put-line, run-most}

@@ -1,5 +1,5 @@
--- `listing::take_faulty` meets its contract: after each turn the faulty senders before this one are taken, and the slice is as long. What
--- falls is the number of senders left. Assumes nothing.
+-- `listing::take_faulty` meets its contract: after each turn the faulty senders before this one are taken, and the
+-- slice is as long. What falls is the number of senders left. Assumes nothing.
 use mathlib.Core.Path.{_≡_, _∙_}
 use Prim.Native.Nat.{_≤_, _-_}
 use native.Mathlib.Nat.{not-suc-le-zero}

@@ -1,5 +1,5 @@
--- `listing::take_if_faulty` meets its contract: a faulty sender's rows are taken; of any other nothing is claimed, and nothing changes.
--- Assumes nothing.
+-- `listing::take_if_faulty` meets its contract: a faulty sender's rows are taken; of any other nothing is claimed,
+-- and nothing changes. Assumes nothing.
 use mathlib.Core.Path.{refl, sym, _∙_}
 use Rattle.counting.proofs.Bools.{never}
 use borrow.Author.Needs.{needs}

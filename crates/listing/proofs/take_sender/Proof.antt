@@ -1,5 +1,5 @@
--- `listing::take_sender` meets its contract: the sender's rows stand in three parts of the table, and each part is read to its place; what
--- was read before stays. n is at most 13, so no product is too large. Assumes nothing.
+-- `listing::take_sender` meets its contract: the sender's rows stand in three parts of the table, and each part is
+-- read to its place; what was read before stays. n is at most 13, so no product is too large. Assumes nothing.
 use Prim.Native.Nat.{_+_, _*_, _≤_}
 use native.Mathlib.Omega.{arith}
 use Rattle.sizes.proofs.Laws.{square-le, cube-le}

@@ -1,4 +1,5 @@
--- `listing::tell` meets its contract: the last line stands behind the others, and together they are the listing. Assumes nothing.
+-- `listing::tell` meets its contract: the last line stands behind the others, and together they are the listing.
+-- Assumes nothing.
 use mathlib.Core.Path.{_≡_, subst, _∙_}
 use Prim.Native.Nat.{_≤_}
 use native.Mathlib.Omega.{arith}
@@ -27,7 +28,8 @@ returns c =
     let s = t .before .before .before .before .before in
     let told = t .tell-lines .ensures in
     let put = c .before .before .put-last .ensures in
-    let room : c .before .before .put-last .result ≤ length (s .args .text .now) = omega (arith, told .1, put .1, s .pre) in
+    let room : c .before .before .put-last .result ≤ length (s .args .text .now) =
+    omega (arith, told .1, put .1, s .pre) in
     let text = put-then (told .0 .text) (put .0) room in (
       record { outcome = told .0 .outcome; text = rw (with-last _ _ (told .0 .outcome)) at text },
       omega (arith, told .1, put .1),

@@ -1,6 +1,6 @@
--- `listing::tell_iterations` meets its contract: at each turn the state is the one after so many iterations as it says, none of them refused,
--- and the lines of those stand in the text, 481 bytes at most for each. The run leaves the loop where the listing ends. What falls is
--- the number of iterations due. Assumes nothing.
+-- `listing::tell_iterations` meets its contract: at each turn the state is the one after so many iterations as it
+-- says, none of them refused, and the lines of those stand in the text, 481 bytes at most for each. The run leaves
+-- the loop where the listing ends. What falls is the number of iterations due. Assumes nothing.
 use mathlib.Core.Path.{_≡_, refl, sym, ap, subst, _∙_}
 use mathlib.Core.List.{List}
 use Prim.Native.Nat.{ℕ, _+_, _-_, _*_, _≤_}

@@ -1,4 +1,5 @@
--- `notebook_run::main` is safe and ends: what was read lies within the file's bytes, and what was written within the text's. Assumes nothing.
+-- `notebook_run::main` is safe and ends: what was read lies within the file's bytes, and what was written within the
+-- text's. Assumes nothing.
 use mathlib.Core.Path.{sym, subst}
 use Prim.Native.Nat.{_≤_}
 use native.Mathlib.Omega.{arith}

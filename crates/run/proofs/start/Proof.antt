@@ -1,4 +1,5 @@
--- `run::start` meets its contract: it refuses with a state of zeros, and otherwise builds the state from the rows. Assumes nothing.
+-- `run::start` meets its contract: it refuses with a state of zeros, and otherwise builds the state from the rows.
+-- Assumes nothing.
 use mathlib.Core.Path.{sym, _∙_}
 use lib.ListN.{replicate}
 use Rattle.run.specs.State.{startRun}

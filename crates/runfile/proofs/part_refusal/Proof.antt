@@ -1,5 +1,6 @@
--- `runfile::part_refusal` meets its contract: the bytes hold an eighth of their number in whole rows, and the part ends within them or
--- not; so the test of refusal 8 is made without a sum that could be too large, and then that of 10. Assumes nothing.
+-- `runfile::part_refusal` meets its contract: the bytes hold an eighth of their number in whole rows, and the part
+-- ends within them or not; so the test of refusal 8 is made without a sum that could be too large, and then that of
+-- 10. Assumes nothing.
 use mathlib.Core.Path.{sym, _∙_}
 use mathlib.Core.List.{[]}
 use Prim.Native.Nat.{_+_, _*_, _≤_, _<_}
@@ -20,7 +21,8 @@ abbrev Short : tie.Start → Type 0
 Short s = length (s .args .bytes .now) < 8 * (s .args .from + s .args .count)
 
 -- where both tests against the bytes were passed
-long-of : (c : tie.Else2) → 8 * (start-of c .args .from + start-of c .args .count) ≤ length (start-of c .args .bytes .now)
+long-of : (c : tie.Else2) →
+    8 * (start-of c .args .from + start-of c .args .count) ≤ length (start-of c .args .bytes .now)
 long-of c = omega arith
 
 returns : tie.Need-returns

@@ -1,5 +1,6 @@
--- `runfile::read_part` meets its contract: the refusal is made first. A part that is not refused has its rows in the bytes and its places
--- in the slice, and those places, lent by themselves, are written from the first to the last. Assumes nothing.
+-- `runfile::read_part` meets its contract: the refusal is made first. A part that is not refused has its rows in the
+-- bytes and its places in the slice, and those places, lent by themselves, are written from the first to the last.
+-- Assumes nothing.
 use mathlib.Core.Path.{_≡_, sym, ap₂, _∙_}
 use mathlib.Core.List.{List, _++_}
 use Prim.Native.Nat.{ℕ, _+_, _-_}
