@@ -34,7 +34,8 @@ pub record Alike (a b : List ℕ) : Type 0 where
   pub headings : heading a ≡ heading b
   pub rows : rowsOf a ≡ rowsOf b
   pub refusals : refusedStart a ≡ 0 → (m : ℕ) → m < due a →
-      tableRefusal (heading a .n) (bytesOf (heading a .n) a m) 4563 ≡ tableRefusal (heading a .n) (bytesOf (heading a .n) b m) 4563
+      tableRefusal (heading a .n) (bytesOf (heading a .n) a m) 4563
+      ≡ tableRefusal (heading a .n) (bytesOf (heading a .n) b m) 4563
   pub lies : refusedStart a ≡ 0 → (m : ℕ) → m < due a →
       SameLies (heading a .n) (heading a .faulty) (tableOf (heading a .n) a m) (tableOf (heading a .n) b m)
   pub ends : refusedStart a ≡ 0 → goesOn a ≡ goesOn b
@@ -126,7 +127,8 @@ module _ (a b : List ℕ) (s : Alike a b) where
         ∙ ap₂ (λ (d k : ℕ). cond (ltb d k) (refusedAt b (doneOf b)) (cond (goesOn b) 8 0)) done-same due-same
       where
         go : (t : Bool) → ltb (doneOf a) (due a) ≡ t →
-            cond t (refusedAt a (doneOf a)) (cond (goesOn a) 8 0) ≡ cond t (refusedAt b (doneOf b)) (cond (goesOn b) 8 0)
+            cond t (refusedAt a (doneOf a)) (cond (goesOn a) 8 0)
+            ≡ cond t (refusedAt b (doneOf b)) (cond (goesOn b) 8 0)
         go true e = refused-same (doneOf a) (ltb-true (doneOf a) (due a) e) ∙ ap (refusedAt b) done-same
         go false e = ap (λ (t : Bool). cond t 8 0) (s .ends ok)
 

@@ -66,7 +66,8 @@ module _ (bytes : List ℕ) (ok : heading bytes .refusal ≡ 0) where
   pub heading-rows : take (heading bytes .n) (headingWrites bytes thirteen) ≡ rowsOf bytes
   unfolding rowsOf
   heading-rows =
-      rw n-is (ap (take (nOf bytes)) (heading-written bytes thirteen passed) ∙ front-take (nOf bytes) (headingRow bytes) thirteen)
+      rw n-is (ap (take (nOf bytes)) (heading-written bytes thirteen passed)
+      ∙ front-take (nOf bytes) (headingRow bytes) thirteen)
 
   pub heading-starts : Startable (heading bytes .n) (heading bytes .t) (heading bytes .faulty) (rowsOf bytes)
   unfolding headingOf

@@ -58,7 +58,8 @@ module _ (f : ℕ → ℕ) where
 
 -- an iteration that is not refused keeps n and t and is one more done
 pub iterate-next : (s : Run) (table : List ℕ) → iterateReply s table .refusal ≡ 0 →
-    (iterateReply s table .run .n ≡ s .n) × (iterateReply s table .run .t ≡ s .t) × (iterateReply s table .run .done ≡ s .done + 1)
+    (iterateReply s table .run .n ≡ s .n) × (iterateReply s table .run .t ≡ s .t)
+    × (iterateReply s table .run .done ≡ s .done + 1)
 unfolding iterateReply nextRun
 iterate-next s table e = rw (eq-eqb (iterateRefusal s table) 0 e) (refl, refl, refl)
 
@@ -134,7 +135,8 @@ module _ (bytes : List ℕ) (s : Run) (g : Going bytes s) where
           (omega (
             arith,
             next-none .0,
-            table-short (s .n) bytes (s .done) going-low going-high (ltb-true (length bytes - tableBegins (s .n) (s .done)) _ t),
+            table-short (s .n) bytes (s .done) going-low going-high
+                (ltb-true (length bytes - tableBegins (s .n) (s .done)) _ t),
           )))
           (λ f. ltb-false (length bytes - tableBegins (s .n) (s .done)) (tableBytes (s .n)) f)
           (either (ltb (length bytes - tableBegins (s .n) (s .done)) (tableBytes (s .n))))

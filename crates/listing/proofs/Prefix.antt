@@ -175,7 +175,8 @@ module _ (bytes : List ℕ) (long : enough < length bytes) where
     table-same : (m : ℕ) → m < due front → bytesOf (heading front .n) front m ≡ bytesOf (heading front .n) bytes m
     unfolding bytesOf front
     table-same m l =
-        part-take enough bytes (tableBegins (heading front .n) m) (tableBytes (heading front .n)) (within m l) (omega arith)
+        part-take enough bytes (tableBegins (heading front .n) m) (tableBytes (heading front .n)) (within m l)
+        (omega arith)
 
     goes-same : goesOn front ≡ goesOn bytes
     unfolding goesOn due
@@ -183,7 +184,8 @@ module _ (bytes : List ℕ) (long : enough < length bytes) where
         let last = begins-most (heading front .t + 1) due-few in
         let other = ap (λ (h : Heading). tableBegins (h .n) (h .t + 1)) heading-same in
         lt-ltb _ (length front) (omega (arith, last, front-long))
-        ∙ sym (lt-ltb (tableBegins (heading bytes .n) (heading bytes .t + 1)) (length bytes) (omega (arith, last, other)))
+        ∙ sym (lt-ltb (tableBegins (heading bytes .n) (heading bytes .t + 1)) (length bytes)
+        (omega (arith, last, other)))
 
   front-alike : Alike front bytes
   unfolding rowsOf tableOf

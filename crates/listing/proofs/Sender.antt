@@ -45,7 +45,8 @@ module _ {n sender : ℕ} (l : sender < n) where
 
 -- what one part that is read brings
 module _ {n : ℕ} (few : n ≤ 13) (from count : ℕ) (bytes table last : List ℕ) (whole : length bytes ≡ tableBytes n)
-    (room : length table ≡ 4563) (within : from + count ≤ tableRows n) (e : last ≡ partWrites from count bytes table) where
+    (room : length table ≡ 4563) (within : from + count ≤ tableRows n) (e : last
+    ≡ partWrites from count bytes table) where
   fits : from + count ≤ length table
   fits = omega (arith, table-le few)
 
@@ -75,7 +76,8 @@ taken-kept k t =
     }
 
 -- the three parts of a sender, read one after the other
-module _ {n sender : ℕ} (few : n ≤ 13) (l : sender < n) (bytes table one two last : List ℕ) (whole : length bytes ≡ tableBytes n)
+module _ {n sender : ℕ} (few : n ≤ 13) (l : sender < n) (bytes table one two last : List ℕ) (whole : length bytes
+    ≡ tableBytes n)
     (room : length table ≡ 4563)
     (e1 : one ≡ partWrites (sender * n) n bytes table)
     (e2 : two ≡ partWrites (n * n + sender * (n * n)) (n * n) bytes one)
@@ -111,7 +113,8 @@ module _ {n sender : ℕ} (few : n ≤ 13) (l : sender < n) (bytes table one two
         step1 =
             λ r hr.
             keeps-trans kept2 kept3 .held (sender * n + r)
-            (part-there few (sender * n) n bytes table one whole room within1 e1 (sender * n + r) (omega arith) (omega arith));
+            (part-there few (sender * n) n bytes table one whole room within1 e1 (sender * n + r) (omega arith)
+            (omega arith));
         step2 =
             λ r k hr hk.
             let b = in-block l r k hr hk in

@@ -41,7 +41,8 @@ module _ (n : ℕ) (bytes : List ℕ) (m : ℕ) (low : 1 ≤ n) (high : n ≤ 13
   pub table-long : tableBytes n ≤ length bytes - tableBegins n m → length (bytesOf n bytes m) ≡ 8 * tableRows n
   unfolding bytesOf tableBytes
   table-long h =
-      length-take-le (8 * tableRows n) (drop (tableBegins n m) bytes) (omega (arith, length-drop (tableBegins n m) bytes))
+      length-take-le (8 * tableRows n) (drop (tableBegins n m) bytes)
+      (omega (arith, length-drop (tableBegins n m) bytes))
 
   pub table-good : tableBytes n ≤ length bytes - tableBegins n m → tableRefusal n (bytesOf n bytes m) 4563 ≡ 0
   unfolding tableRefusal tableTests
@@ -57,10 +58,15 @@ module _ (s : Run) (bytes : List ℕ) (u : Underway s bytes) where
   unfolding refusedTable
   cut-short h =
       let e = table-short (s .n) bytes (s .done) (u .low) (u .high) h in
-      record { number = sym (first-refused _ _ (λ z. absurd (omega (arith, e, z))) ∙ e); state = λ z. absurd (omega arith) }
+      record {
+        number = sym (first-refused _ _ (λ z. absurd (omega (arith, e, z)))
+            ∙ e);
+        state = λ z. absurd (omega arith);
+      }
 
   -- the rows of the faulty senders, taken from the bytes of the table, lead to the reply of the table
-  module _ (rows from : ℕ) (part table : List ℕ) (er : rows ≡ tableRows (s .n)) (ef : from ≡ tableBegins (s .n) (s .done))
+  module _ (rows from : ℕ) (part table : List ℕ) (er : rows ≡ tableRows (s .n)) (ef : from
+      ≡ tableBegins (s .n) (s .done))
       (whole : 8 * rows ≤ length bytes - from) (ep : part ≡ take (from + 8 * rows - from) (drop from bytes))
       (t : TakenTo (s .n) (s .faulty) part table (s .n)) (long : length table ≡ 4563) where
     enough : tableBytes (s .n) ≤ length bytes - tableBegins (s .n) (s .done)

@@ -97,7 +97,8 @@ module _ (bytes : List ℕ) where
     outcome-run = cond-true _ _ (eq-eqb _ 0 taken) ∙ ap (stateAfter bytes) all-done
 
     setting : faultyBoxes (heading bytes .n) (heading bytes .faulty) ≤ heading bytes .t →
-        Setting (heading bytes .n) (heading bytes .t) (heading bytes .faulty) (rowsOf bytes) (tableOf (heading bytes .n) bytes)
+        Setting (heading bytes .n) (heading bytes .t) (heading bytes .faulty) (rowsOf bytes)
+        (tableOf (heading bytes .n) bytes)
     unfolding tableOf
     setting few =
         let s = heading-starts bytes good in
@@ -123,9 +124,11 @@ module _ (bytes : List ℕ) where
           agrees = subst (λ (q : Run). SameRow n f (q .rows)) (sym outcome-run) (d .agrees);
           valid =
               λ v h.
-              subst (λ (q : Run). AllHold n f (q .rows) v) (sym outcome-run) (d .valid v h (heading bytes .t + 1) (le-refl _));
+              subst (λ (q : Run). AllHold n f (q .rows) v) (sym outcome-run)
+              (d .valid v h (heading bytes .t + 1) (le-refl _));
           unlisted =
-              subst (λ (q : Run). NoSoundListed n f (q .lists)) (sym outcome-run) (d .never-listed (heading bytes .t + 1) (le-refl _));
+              subst (λ (q : Run). NoSoundListed n f (q .lists)) (sym outcome-run)
+              (d .never-listed (heading bytes .t + 1) (le-refl _));
         }
 
   -- how a listing ends

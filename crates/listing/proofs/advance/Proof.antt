@@ -22,7 +22,8 @@ start-of c = c .before .before .before .before
 rows-of : (c : tie.After-table-rows) → c .table-rows .result ≡ tableRows (c .before .before .before .args .s .n)
 rows-of c =
     c .table-rows .ensures
-    ∙ by-n-inside tableRows _ (inside _ (c .before .before .before .pre .0 .low) (c .before .before .before .pre .0 .high))
+    ∙ by-n-inside tableRows _ (inside _ (c .before .before .before .pre .0 .low)
+    (c .before .before .before .pre .0 .high))
 
 -- where the faulty senders' rows were taken
 abbrev begins-of : tie.After-take-faulty → tie.After-begins
@@ -49,7 +50,9 @@ mul-if1 c = omega (arith, rows-of (c .before), table-le (start-of c .pre .0 .hig
 
 returns : tie.Need-returns
 unfolding tableBytes
-returns c = cut-short _ _ (start-of (c .before) .pre .0) (omega (arith, rows-of (c .before .before), c .before .begins .ensures .0, c .if1 .taken))
+returns c =
+    cut-short _ _ (start-of (c .before) .pre .0)
+    (omega (arith, rows-of (c .before .before), c .before .begins .ensures .0, c .if1 .taken))
 
 mul-end : tie.Need-mul-end
 mul-end c = search needs

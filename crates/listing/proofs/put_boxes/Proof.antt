@@ -60,7 +60,8 @@ returns c =
     let inv = c .before .loop .inv in
     let all : c .before .loop .i ≡ c .before .before .before .before .args .s .n = omega arith in
     let a = c .before .before .before .before .args in (
-      subst (λ (k : ℕ). Put (a .text .now) (c .before .loop .text) (a .at) (c .before .loop .end) (boxLines (a .s) k)) all (inv .2),
+      subst (λ (k : ℕ). Put (a .text .now) (c .before .loop .text) (a .at) (c .before .loop .end)
+          (boxLines (a .s) k)) all (inv .2),
       omega (arith, inv .3, c .before .before .before .before .pre),
     )
 

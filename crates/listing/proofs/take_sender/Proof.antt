@@ -70,8 +70,11 @@ returns c =
     let p = s .pre in
     let one = d .before .before .before .before .before .before .read-part .ensures .1 in
     let two = d .before .before .read-part2 .ensures .1 in
-    let three = c .before .before .read-part3 .ensures .1 in
-    (sender-taken (p .0) (p .1) _ _ _ _ _ (p .2) (p .3) one two three, sender-kept (p .0) (p .1) _ _ _ _ _ (p .2) (p .3) one two three)
+    let three = c .before .before .read-part3 .ensures .1 in (
+      sender-taken (p .0) (p .1) _ _ _ _ _ (p .2) (p .3) one two three,
+      sender-kept (p .0) (p .1) _ _ _ _ _ (p .2)
+          (p .3) one two three,
+    )
 
 pub take-sender-spec : {M : Type 1} → statement M
 take-sender-spec =

@@ -87,7 +87,8 @@ returns c =
       record {
         outcome = c .ended .ensures ∙ stopped-outcome _ _ g (due-of a) _ refused h;
         text =
-            subst (λ (k : ℕ). Put (b .text .now) (t .loop .text) (b .at) (t .loop .size) (iterationLines (bytes-of t) k))
+            subst (λ (k : ℕ). Put (b .text .now) (t .loop .text) (b .at) (t .loop .size)
+            (iterationLines (bytes-of t) k))
             (sym (stopped-done _ _ g (due-of a) _ refused h)) (t .loop .inv .3);
       },
       omega (arith, t .loop .inv .4, due-of a, going-few _ _ g),
@@ -98,7 +99,15 @@ put-boxes-requires c κs =
     let e = c .before .before in
     let t = turn-of (advance-of e) in (
       going-high _ _ (goes e),
-      omega (arith, t .loop .inv .2, t .loop .inv .4, due-of (advance-of e), going-few _ _ (t .loop .inv .0), start-of t .pre .2),
+      omega (
+        arith,
+        t .loop .inv .2,
+        t .loop .inv .4,
+        due-of (advance-of e),
+        going-few _ _
+            (t .loop .inv .0),
+        start-of t .pre .2,
+      ),
     )
 
 loop-less : tie.Need-loop-less Inv-loop μ-loop
@@ -119,7 +128,8 @@ loop-again c =
     let text = put-then (t .loop .inv .3) (put .0) room in
     let lines =
     lines-turn (bytes-of t) (t .loop .s) (a .advance .result .run)
-    (next-done _ _ g _ (a .advance .ensures) (e .if2 .left)) (next-state _ _ g _ (a .advance .ensures) (e .if2 .left)) in (
+    (next-done _ _ g _ (a .advance .ensures) (e .if2 .left))
+    (next-state _ _ g _ (a .advance .ensures) (e .if2 .left)) in (
       goes e,
       a .advance .kept .1 .1 .0 ∙ t .loop .inv .1,
       put-long text room,
@@ -153,7 +163,8 @@ returns-2 c =
       record {
         outcome = c .ended2 .ensures ∙ refusal ∙ finished-outcome _ _ g past;
         text =
-            subst (λ (k : ℕ). Put (b .text .now) (t .loop .text) (b .at) (t .loop .size) (iterationLines (bytes-of t) k))
+            subst (λ (k : ℕ). Put (b .text .now) (t .loop .text) (b .at) (t .loop .size)
+            (iterationLines (bytes-of t) k))
             (sym (finished-done _ _ g past)) (t .loop .inv .3);
       },
       omega (arith, t .loop .inv .4, g .few, going-few _ _ g),
