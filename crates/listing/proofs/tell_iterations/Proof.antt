@@ -3,7 +3,7 @@
 -- the loop where the listing ends. What falls is the number of iterations due. Assumes nothing.
 use mathlib.Core.Path.{_≡_, refl, sym, ap, subst, _∙_}
 use mathlib.Core.List.{List}
-use Prim.Native.Nat.{ℕ, _+_, _-_, _*_, _≤_}
+use Prim.Native.Nat.{ℕ, _+_, _-_, _*_, _≤_, _<_}
 use native.Mathlib.Omega.{arith}
 use lib.ListN.{length}
 use Rattle.listing.specs.Inside.{Put}
@@ -37,7 +37,7 @@ abbrev bytes-of : tie.At-loop Inv-loop μ-loop → List ℕ
 bytes-of c = start-of c .args .bytes .now
 
 due-of : (c : tie.After-advance Inv-loop μ-loop) → turn-of c .loop .s .done ≤ turn-of c .loop .s .t
-due-of c = c .before .before .if1 .taken
+due-of c = omega (arith, c .before .before .if1 .taken)
 
 abbrev advance-of : tie.Else2 Inv-loop μ-loop → tie.After-advance Inv-loop μ-loop
 advance-of c = c .before .before .before .before
@@ -65,7 +65,7 @@ loop-holds c =
 advance-requires : tie.Need-advance-requires Inv-loop μ-loop
 advance-requires c κs =
     let t = c .before .before .before in
-    (underway _ _ (t .loop .inv .0) (c .before .if1 .taken), t .loop .inv .1 ∙ start-of t .pre .1)
+    (underway _ _ (t .loop .inv .0) (omega (arith, c .before .if1 .taken)), t .loop .inv .1 ∙ start-of t .pre .1)
 
 ended-requires : tie.Need-ended-requires Inv-loop μ-loop
 ended-requires c κs = search needs
@@ -157,7 +157,7 @@ returns-2 c =
     let e = c .before .before in
     let t = e .before .before in
     let g = t .loop .inv .0 in
-    let past = e .if1 .left in
+    let past : t .loop .s .t < t .loop .s .done = omega (arith, e .if1 .left) in
     let b = start-of t .args in
     let refusal = ap (λ (k : ℕ). endedBy k (t .loop .s)) (c .before .end-refusal .ensures) in (
       record {
