@@ -515,22 +515,14 @@ fn all_steps(
     let mut third = [0u64; 169];
     step3(hall, lists, table, &second, &mut heard, &mut third);
     let sent = messages_of(n, faulty, rows, &second, &third);
-    let mut graded = [0u64; 169];
-    let mut confidences = [0u8; 169];
-    step4(
-        hall,
-        lists,
-        table,
-        &third,
-        &mut heard,
-        &mut graded,
-        &mut confidences,
-    );
+    let mut held = [0u64; 169];
+    let mut sure = [0u8; 169];
+    step4(hall, lists, table, &third, &mut heard, &mut held, &mut sure);
     Cast {
         refusal: 0,
         sent,
-        rows: graded,
-        confidences,
+        rows: held,
+        confidences: sure,
     }
 }
 

@@ -18,7 +18,7 @@ step1-done c = c .before .before .before .before
 abbrev step3-done : tie.After-third3 → tie.After-step3
 step3-done c = c .before .before .before .before
 
-abbrev counted : tie.After-confidences → tie.After-messages-of
+abbrev counted : tie.After-sure → tie.After-messages-of
 counted c = c .before .before .before .before
 
 -- what all boxes go by is as it must be
