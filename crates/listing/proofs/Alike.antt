@@ -11,7 +11,7 @@ use native.Mathlib.Decide.{ℕ-discrete}
 use native.Mathlib.Omega.{arith}
 use lib.Dec.{eqb, ltb}
 use borrow.Author.Tests.{ltb-true}
-use lib.ListN.{length, take, drop, length-take, length-drop}
+use lib.ListN.{length, drop, length-take, length-drop}
 use Rattle.counting.proofs.Build.{length-build}
 use Rattle.counting.proofs.Count.{lower}
 use Rattle.sizes.specs.Sizes.{tableRows}
@@ -27,6 +27,7 @@ use Rattle.listing.specs.File.{orElse, tableBytes, tableBegins, bytesOf,
 use Rattle.listing.specs.Files.{SameButSound}
 use Rattle.listing.specs.Listing.{endedBy, passed, boxLines, runLine, lastLine, doneOf, iterationLines, refusedLater, endsWith, startLine, firstLines, outcomeOf, listingOf}
 use Rattle.listing.proofs.Heading.{heading-good, start-state}
+use Rattle.listing.proofs.Iterations.{passed-most}
 use Rattle.listing.proofs.Whole.{early-outcome, early-lines}
 
 -- what two files have in common: the rest of it only where the heading is not refused
@@ -45,16 +46,6 @@ unfolding passed
 passed-ext f g zero h = refl
 passed-ext f g (suc k) h =
     ap₂ (λ (p r : ℕ). p + cond (eqb p k && eqb r 0) 1 0) (passed-ext f g k (lower k h)) (h k (le-refl _))
-
--- never more than there are
-passed-most : (f : ℕ → ℕ) (k : ℕ) → passed f k ≤ k
-unfolding passed
-passed-most f zero = le-refl _
-passed-most f (suc k) = more (eqb (passed f k) k && eqb (f k) 0) (passed f k) k (passed-most f k)
-  where
-    more : (t : Bool) (p j : ℕ) → p ≤ j → p + cond t 1 0 ≤ suc j
-    more true p j l = omega arith
-    more false p j l = omega arith
 
 module _ (a b : List ℕ) (s : Alike a b) where
   first-same : startReply (heading a .n) (heading a .t) (heading a .faulty) (rowsOf a)

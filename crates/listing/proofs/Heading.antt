@@ -2,27 +2,22 @@
 -- of the line `run` exactly where its heading is, and the state before the first iteration is the start's.
 -- Assumes nothing.
 use mathlib.Core.Path.{_≡_, refl, sym, ap, subst, _∙_}
-use mathlib.Core.Bool.{Bool, true, false, cond}
+use mathlib.Core.Bool.{Bool, true, false}
 use mathlib.Core.List.{List}
-use Prim.Native.Nat.{ℕ, _+_, _*_, _≤_, _<_}
-use native.Mathlib.Omega.{arith}
+use Prim.Native.Nat.{ℕ, _*_, _≤_, _<_}
 use lib.Dec.{eqb}
 use lib.ListN.{length, take, replicate}
 use borrow.Author.Tests.{eqb-true, eqb-false, eq-eqb, ne-eqb}
-use Rattle.counting.specs.Count.{build}
 use Rattle.counting.proofs.Bools.{cond-true, cond-false}
 use Rattle.counting.proofs.Build.{front-take}
 use Rattle.sizes.specs.Sizes.{Startable}
 use Rattle.sizes.proofs.Laws.{inside-low, inside-high}
-use Rattle.run.specs.declared.Run.{Run}
 use Rattle.run.specs.declared.Next.{Next}
 use Rattle.run.specs.State.{startRefusal, startRun, startReply, zeros, after}
-use Rattle.run.specs.Legal.{Legal}
 use Rattle.run.proofs.Accepted.{start-accepted-is}
-use Rattle.run.proofs.Closed.{start-legal}
 use Rattle.runfile.specs.declared.Heading.{Heading}
-use Rattle.runfile.specs.File.{nOf, tByte, tOf, faultyOf, headingBytes, headingRow}
-use Rattle.runfile.specs.Reply.{headingRefusal, headingReply, headingOf, headingWrites}
+use Rattle.runfile.specs.File.{nOf, headingBytes, headingRow}
+use Rattle.runfile.specs.Reply.{headingRefusal, headingOf, headingWrites}
 use Rattle.runfile.proofs.Laws.{Accepted, heading-accepted, heading-given, heading-written, heading-number, heading-tolerates, heading-startable}
 use Rattle.listing.specs.File.{orElse, heading, rowsOf, replyAfter, stateAfter, refusedStart}
 

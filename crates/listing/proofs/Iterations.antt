@@ -5,27 +5,24 @@ use mathlib.Core.Path.{_≡_, refl, sym, ap, ap₂, subst, _∙_}
 use mathlib.Core.Bool.{Bool, true, false, cond, _&&_}
 use mathlib.Core.List.{List, _++_}
 use mathlib.Core.Logic.{⊎-elim}
-use Prim.Native.Nat.{ℕ, zero, suc, _+_, _-_, _*_, _≤_, _<_}
-use native.Mathlib.Nat.{not-suc-le-zero, suc-mul}
+use Prim.Native.Nat.{ℕ, zero, suc, _+_, _-_, _≤_, _<_}
+use native.Mathlib.Nat.{le-refl, suc-mul}
 use native.Mathlib.Numerals.{add-one}
 use native.Mathlib.Omega.{arith}
 use lib.Dec.{eqb, ltb}
 use lib.ListN.{length}
-use borrow.Author.Tests.{eqb-true, eq-eqb, ne-eqb, lt-ltb, le-ltb, ltb-true, ltb-false}
+use borrow.Author.Tests.{eq-eqb, ne-eqb, lt-ltb, le-ltb, ltb-true, ltb-false}
 use Rattle.counting.proofs.Bools.{both, cond-true, cond-false, and-false-right, either}
 use Rattle.counting.proofs.Count.{at-or-below}
-use Rattle.sizes.specs.Sizes.{tableRows}
 use Rattle.run.specs.declared.Run.{Run}
 use Rattle.run.specs.declared.Next.{Next}
 use Rattle.run.specs.Iteration.{nextRun}
-use Rattle.run.specs.State.{startRun, zeros, iterateRefusal, iterateReply, after}
-use Rattle.runfile.specs.File.{headingBytes}
+use Rattle.run.specs.State.{iterateRefusal, iterateReply, after}
 use Rattle.runfile.specs.Reply.{tableRefusal}
-use Rattle.runfile.proofs.Laws.{table-accepted}
 use Rattle.listing.specs.File.{tableBytes, tableBegins, bytesOf, tableOf, refusedTable, heading, replyAfter, stateAfter, refusedStart, refusedAt, due, goesOn}
 use Rattle.listing.specs.Inside.{Underway, Advanced, Started}
 use Rattle.listing.specs.Listing.{endedBy, passed, boxLines, iterationLines, doneOf, refusedLater, endsWith, outcomeOf}
-use Rattle.listing.proofs.Heading.{first-refused, first-passed, none-refused, heading-good, heading-low, heading-high, heading-few, heading-whole, start-state}
+use Rattle.listing.proofs.Heading.{first-passed, none-refused, heading-good, heading-low, heading-high, heading-few}
 use Rattle.listing.proofs.Table.{table-short}
 
 -- the first of many that is refused
@@ -35,6 +32,16 @@ module _ (f : ℕ → ℕ) where
   passed-turn m h e =
       ap (λ (k : ℕ). passed f m + k) (cond-true 1 0 (both (eq-eqb (passed f m) m h) (eq-eqb (f m) 0 e)))
       ∙ omega (arith, h)
+
+  -- never more than there are
+  pub passed-most : (k : ℕ) → passed f k ≤ k
+  unfolding passed
+  passed-most zero = le-refl _
+  passed-most (suc k) = more (eqb (passed f k) k && eqb (f k) 0) (passed f k) k (passed-most k)
+    where
+      more : (t : Bool) (p j : ℕ) → p ≤ j → p + cond t 1 0 ≤ suc j
+      more true p j l = omega arith
+      more false p j l = omega arith
 
   -- one that is refused is the last that counts
   pub passed-stops : (m k : ℕ) → passed f m ≡ m → (f m ≡ 0 → ⊥) → m ≤ k → passed f k ≡ m

@@ -38,7 +38,7 @@ use Rattle.lines.proofs.Lines.{line-size}
 use Rattle.listing.specs.File.{orElse, tableBytes, tableBegins, bytesOf, tableOf, refusedTable, heading, rowsOf, replyAfter, stateAfter, refusedStart, refusedAt, due, goesOn}
 use Rattle.listing.specs.Listing.{run-word, at-word, sent-word, refused-word, runLine, atLine, lastLine, boxLine, boxLines, endedBy, passed, doneOf, iterationLines, refusedLater, endsWith, startLine, firstLines, outcomeOf, listingOf, listReply}
 use Rattle.listing.proofs.Heading.{none-refused, heading-good, heading-high, heading-few, heading-starts, start-state}
-use Rattle.listing.proofs.Iterations.{iterate-next}
+use Rattle.listing.proofs.Iterations.{passed-most, iterate-next}
 use Rattle.listing.proofs.Whole.{early-lines}
 
 -- a number of so many bytes
@@ -96,16 +96,6 @@ iterate-highest s table = first-highest _
 or-below : (a b : ℕ) → a < 100 → b < 100 → orElse a b < 100
 unfolding orElse
 or-below a b h l = cond-below 100 (omega arith) (eqb a 0) l h
-
--- those that are passed before one is refused
-passed-le : (f : ℕ → ℕ) (k : ℕ) → passed f k ≤ k
-unfolding passed
-passed-le f zero = le-refl _
-passed-le f (suc k) = go (eqb (passed f k) k && eqb (f k) 0) (passed-le f k)
-  where
-    go : (b : Bool) → passed f k ≤ k → passed f k + cond b 1 0 ≤ suc k
-    go true l = omega arith
-    go false l = omega arith
 
 passed-each : (f : ℕ → ℕ) (k j : ℕ) → j < passed f k → f j ≡ 0
 unfolding passed
@@ -226,7 +216,7 @@ module _ (bytes : List ℕ) where
     done-few =
         omega (
           arith,
-          passed-le (refusedAt bytes) (heading bytes .t + 1),
+          passed-most (refusedAt bytes) (heading bytes .t + 1),
           heading-few bytes good,
           heading-high bytes good,
         )

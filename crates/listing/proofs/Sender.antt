@@ -2,8 +2,7 @@
 -- part puts the table's rows to its places and takes none away from any other place; so three parts read one after
 -- the other are the sender's rows, and those of all faulty senders are all that an iteration reads of the table.
 -- Assumes nothing.
-use mathlib.Core.Path.{_≡_, sym, ap, subst, _∙_}
-use mathlib.Core.Bool.{true}
+use mathlib.Core.Path.{_≡_, sym, ap, _∙_}
 use mathlib.Core.List.{List}
 use Prim.Native.Nat.{ℕ, _+_, _*_, _≤_, _<_}
 use native.Mathlib.Nat.{suc-mul, add-mul, mul-assoc, mul-le-mul-right}
@@ -12,7 +11,6 @@ use lib.Arith.{digits-lt}
 use lib.ListN.{length, getD, take}
 use lib.Seq.{getD-take}
 use Rattle.counting.specs.Count.{build}
-use Rattle.counting.specs.Sets.{member}
 use Rattle.counting.proofs.Build.{getD-build}
 use Rattle.sizes.specs.Sizes.{tableRows}
 use Rattle.sizes.proofs.Laws.{table-le}

@@ -8,7 +8,6 @@ use native.Mathlib.Omega.{arith}
 use lib.ListN.{length, take, drop, length-drop}
 use lib.Seq.{take-all, length-take-le}
 use borrow.Author.Tests.{eq-eqb, ne-eqb, le-ltb}
-use Rattle.counting.specs.Count.{build}
 use Rattle.counting.proofs.Bools.{not-of-true, not-of-false}
 use Rattle.counting.proofs.Build.{length-build}
 use Rattle.counting.proofs.Refuse.{refused, passed, none-left}

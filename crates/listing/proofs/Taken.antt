@@ -3,29 +3,28 @@
 -- ends: with `sent` and the outcome's messages where the outcome has no refusal, with `refused` and its number where
 -- it has one, and never with both. Assumes nothing.
 use mathlib.Core.Path.{_≡_, refl, sym, ap, subst, _∙_}
-use mathlib.Core.Bool.{Bool, true, false, cond, _&&_}
+use mathlib.Core.Bool.{false, _&&_}
 use mathlib.Core.List.{List, [], _∷_, _++_}
-use Prim.Native.Nat.{ℕ, zero, suc, _+_, _*_, _≤_, _<_}
+use Prim.Native.Nat.{ℕ, zero, suc, _+_, _≤_, _<_}
 use native.Mathlib.Nat.{le-refl}
 use native.Mathlib.Decide.{ℕ-discrete}
 use native.Mathlib.Omega.{arith}
-use lib.Dec.{eqb, ltb}
-use lib.ListN.{length, getD, List·getD-append}
-use borrow.Author.Tests.{eqb-true, eqb-false, eq-eqb, ne-eqb, lt-ltb}
+use lib.Dec.{eqb}
+use lib.ListN.{getD}
+use borrow.Author.Tests.{eq-eqb, ne-eqb, lt-ltb}
 use Rattle.counting.proofs.Bools.{cond-true, cond-false, not-both}
 use Rattle.counting.proofs.Build.{length-build}
 use Rattle.sizes.specs.Sizes.{tableRows}
 use Rattle.sizes.proofs.Laws.{within-lt}
 use Rattle.gradecast.specs.Fair.{faultyBoxes, NoSoundListed}
 use Rattle.run.specs.declared.Run.{Run}
-use Rattle.run.specs.declared.Next.{Next}
-use Rattle.run.specs.State.{startReply, after}
+use Rattle.run.specs.State.{after}
 use Rattle.run.proofs.Accepted.{rows-not-zero}
 use Rattle.agreement.specs.Demand.{Setting, AllHold, SameRow}
 use Rattle.agreement.proofs.Agreement.{demand3}
 use Rattle.runfile.specs.File.{tableRow}
 use Rattle.lines.specs.Line.{lineOf}
-use Rattle.listing.specs.File.{heading, rowsOf, bytesOf, tableOf, replyAfter, stateAfter, refusedStart, refusedAt, due, goesOn}
+use Rattle.listing.specs.File.{heading, rowsOf, bytesOf, tableOf, replyAfter, stateAfter, refusedStart, refusedAt, due}
 use Rattle.listing.specs.Files.{Demand3Of}
 use Rattle.listing.specs.Listing.{sent-word, refused-word, lastLine, endedBy, passed, doneOf, refusedLater, endsWith, firstLines, outcomeOf, listingOf}
 use Rattle.listing.proofs.Heading.{none-refused, heading-good, heading-low, heading-high, heading-few, heading-starts}

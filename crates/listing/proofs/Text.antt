@@ -1,14 +1,14 @@
 -- A text that is put together in a slice: nothing is put, a line is put, one text is put behind another; and how long
 -- a line can be by what its numbers can be.
 -- Assumes nothing.
-use mathlib.Core.Path.{_≡_, refl, sym, ap, _∙_}
+use mathlib.Core.Path.{_≡_, sym, ap, _∙_}
 use mathlib.Core.List.{List, [], _∷_, _++_}
 use Prim.Native.Nat.{ℕ, _+_, _-_, _^_, _≤_, _<_}
 use native.Mathlib.Nat.{add-zero}
 use native.Mathlib.Omega.{arith}
 use lib.ListN.{length, take, drop, length-append}
 use Rattle.counting.specs.Count.{sum}
-use Rattle.lines.specs.Line.{decimal, lineOf, placed, lineReply, lineWrites}
+use Rattle.lines.specs.Line.{decimal, lineOf, lineReply, lineWrites}
 use Rattle.lines.proofs.Decimal.{decimal-most}
 use Rattle.lines.proofs.Lines.{line-size}
 use Rattle.lines.proofs.Placed.{placed-none, placed-length, placed-then}

@@ -1,13 +1,13 @@
 -- The whole listing put together: the line of the start and those of the iterations are the lines before the last,
 -- and with the last they are the listing; a file whose heading is refused has none but the last; and the listing is
 -- copied to a slice that has room for it. Assumes nothing.
-use mathlib.Core.Path.{_≡_, refl, sym, ap, ap₂, subst, _∙_}
-use mathlib.Core.Bool.{Bool, true, false, cond}
+use mathlib.Core.Path.{_≡_, refl, sym, ap, subst, _∙_}
+use mathlib.Core.Bool.{Bool, true, false}
 use mathlib.Core.List.{List, [], _++_}
-use Prim.Native.Nat.{ℕ, _+_, _*_, _≤_, _<_}
+use Prim.Native.Nat.{ℕ, _+_, _≤_, _<_}
 use native.Mathlib.Nat.{le-refl}
 use native.Mathlib.Omega.{arith}
-use lib.Dec.{eqb, ltb}
+use lib.Dec.{ltb}
 use lib.ListN.{length, take, drop}
 use lib.Seq.{take-at, take-all}
 use borrow.Author.Tests.{eq-eqb, ne-eqb, lt-ltb, le-ltb, ltb-false}
@@ -16,13 +16,10 @@ use Rattle.run.specs.declared.Run.{Run}
 use Rattle.run.specs.declared.Next.{Next}
 use Rattle.run.specs.State.{startRun, zeros}
 use Rattle.lines.specs.Line.{placed}
-use Rattle.runfile.specs.File.{headingBytes}
-use Rattle.listing.specs.declared.Listed.{Listed}
-use Rattle.listing.specs.File.{tableBytes, tableBegins, heading, rowsOf, stateAfter, refusedStart}
-use Rattle.listing.specs.Inside.{Put, Started, ToldBy}
+use Rattle.listing.specs.File.{tableBegins, heading, rowsOf, stateAfter, refusedStart}
+use Rattle.listing.specs.Inside.{Put, Started}
 use Rattle.listing.specs.Listing.{runLine, lastLine, endedBy, doneOf, iterationLines, endsWith, startLine, firstLines, outcomeOf, listingOf, listReply, listWrites}
-use Rattle.listing.proofs.Heading.{first-refused, first-passed, heading-good, heading-low, heading-high, heading-few, heading-whole, start-state}
-use Rattle.listing.proofs.Text.{put-nothing, put-then}
+use Rattle.listing.proofs.Heading.{first-refused, heading-good, heading-low, heading-high, heading-few, heading-whole, start-state}
 
 -- a refusal brings zeros, whatever the state
 ended-zeros : (refusal : ℕ) (s q : Run) → (refusal ≡ 0 → ⊥) → endedBy refusal s ≡ endedBy refusal q

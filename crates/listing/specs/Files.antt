@@ -2,12 +2,11 @@
 use Prim.Native.Nat.{ℕ, _<_}
 use mathlib.Core.Path.{_≡_}
 use mathlib.Core.List.{List}
-use lib.ListN.{length, getD}
+use lib.ListN.{length}
 use Rattle.gradecast.specs.Lies.{SameLies}
 use Rattle.gradecast.specs.Fair.{NoSoundListed}
 use Rattle.agreement.specs.Demand.{AllHold, SameRow}
-use Rattle.runfile.specs.File.{headingBytes}
-use Rattle.listing.specs.File.{heading, rowsOf, bytesOf, tableOf, due}
+use Rattle.listing.specs.File.{heading, rowsOf, tableOf, due}
 use Rattle.listing.specs.Listing.{outcomeOf}
 
 -- the bytes of a file that matter: as many as the largest file has, and one that shows that a file goes on

@@ -1,7 +1,7 @@
 -- The listing of a run file and its outcome, as document 01 has them under "The program and one listing in full". A
 -- text is a list of bytes; boxes count from 0 here, and from 1 in the text.
 use Prim.Native.Nat.{ℕ, zero, suc, _+_}
-use mathlib.Core.Bool.{Bool, cond, _&&_}
+use mathlib.Core.Bool.{cond, _&&_}
 use mathlib.Core.List.{List, [], _∷_, _++_}
 use lib.Dec.{eqb, ltb}
 use lib.ListN.{length, getD}

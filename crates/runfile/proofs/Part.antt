@@ -1,7 +1,7 @@
 -- A part of a table: a call that is not refused has its rows in the bytes and room in the slice, a refused one leaves
 -- the slice, and afterwards each place of the part holds the table's row of that place and every other place what it
 -- held. Assumes nothing.
-use mathlib.Core.Path.{_≡_, sym, ap, _∙_}
+use mathlib.Core.Path.{_≡_, ap, _∙_}
 use mathlib.Core.List.{List, [], _++_}
 use mathlib.Core.Logic.{⊎-elim}
 use Prim.Native.Nat.{ℕ, _+_, _-_, _*_, _≤_, _<_}

@@ -1,7 +1,7 @@
 -- `listing::advance` meets its contract: a table that is not whole is refused by 8. Of a whole one the faulty
 -- senders' rows are taken, and an iteration reads no others, so its reply is that of the whole table. Assumes
 -- nothing.
-use mathlib.Core.Path.{_≡_, refl, sym, ap, _∙_}
+use mathlib.Core.Path.{_≡_, refl, sym, _∙_}
 use Prim.Native.Nat.{_+_, _*_, _≤_}
 use native.Mathlib.Omega.{arith}
 use lib.ListN.{length}

@@ -1,6 +1,6 @@
 -- `listing::begin` meets its contract: a refused heading is the refusal, and otherwise the start is made of what the
 -- heading says and of the n rows that it wrote. Assumes nothing.
-use mathlib.Core.Path.{_≡_, refl, sym, ap, _∙_}
+use mathlib.Core.Path.{_≡_, sym, ap, _∙_}
 use mathlib.Core.List.{List}
 use Prim.Native.Nat.{ℕ, _≤_}
 use native.Mathlib.Omega.{arith}

@@ -1,6 +1,6 @@
 -- `listing::begins` meets its contract: the table by n is the formula, and five of the largest tables behind the
 -- largest heading are 182,633 bytes. Assumes nothing.
-use mathlib.Core.Path.{_≡_, refl, ap, _∙_}
+use mathlib.Core.Path.{_≡_, ap, _∙_}
 use Prim.Native.Nat.{ℕ, _+_, _*_, _≤_}
 use native.Mathlib.Nat.{mul-le-mul}
 use native.Mathlib.Omega.{arith}

@@ -1,7 +1,7 @@
 -- `listing::end_refusal` meets its contract: it holds the file's length against the place behind the tables. Assumes
 -- nothing.
 use borrow.Author.Tests.{lt-ltb, le-ltb}
-use mathlib.Core.Path.{_≡_, refl}
+use mathlib.Core.Path.{refl}
 use borrow.Author.Needs.{needs}
 use Rattle.listing.proofs.end_refusal.Statement.{statement}
 use Rattle.listing.proofs.end_refusal.Tie as tie

@@ -1,7 +1,7 @@
 -- `listing::ended` meets its contract: a refusal comes with a state of zeros, and 0 with the last state. Assumes
 -- nothing.
-use mathlib.Core.Path.{_≡_, refl}
-use borrow.Author.Tests.{eq-eqb, ne-eqb}
+use mathlib.Core.Path.{refl}
+use borrow.Author.Tests.{ne-eqb}
 use Rattle.listing.specs.Listing.{endedBy}
 use borrow.Author.Needs.{needs}
 use Rattle.listing.proofs.ended.Statement.{statement}

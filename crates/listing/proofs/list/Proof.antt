@@ -1,6 +1,6 @@
 -- `listing::list` meets its contract: the listing is put together apart, so that a slice that is too short stays as
 -- it is; one that has room takes it at its front. Assumes nothing.
-use mathlib.Core.Path.{_≡_, refl, sym, ap, _∙_}
+use mathlib.Core.Path.{_≡_, sym, ap, _∙_}
 use mathlib.Core.List.{List}
 use Prim.Native.Nat.{ℕ, _≤_, _<_}
 use native.Mathlib.Omega.{arith}

@@ -1,13 +1,12 @@
 -- `listing::put_boxes` meets its contract: after each turn the lines of the boxes before this one stand there, 37
 -- bytes at most for each. What falls is the number of boxes left. Assumes nothing.
-use mathlib.Core.Path.{_≡_, refl, sym, ap, _∙_, subst}
-use mathlib.Core.List.{List}
+use mathlib.Core.Path.{_≡_, refl, sym, ap, subst}
 use Prim.Native.Nat.{ℕ, _+_, _-_, _*_, _≤_}
 use native.Mathlib.Numerals.{add-one}
 use native.Mathlib.Omega.{arith}
 use lib.ListN.{length}
 use Rattle.listing.specs.Inside.{Put}
-use Rattle.listing.specs.Listing.{boxLine, boxLines}
+use Rattle.listing.specs.Listing.{boxLines}
 use Rattle.listing.proofs.Text.{put-nothing, put-then, put-long}
 use borrow.Author.Needs.{needs}
 use Rattle.listing.proofs.put_boxes.Statement.{statement}

@@ -1,6 +1,5 @@
 -- `listing::tell` meets its contract: the last line stands behind the others, and together they are the listing.
 -- Assumes nothing.
-use mathlib.Core.Path.{_≡_, subst, _∙_}
 use Prim.Native.Nat.{_≤_}
 use native.Mathlib.Omega.{arith}
 use lib.ListN.{length}

@@ -1,6 +1,6 @@
 -- `listing::tell_lines` meets its contract: a refused heading or start is the outcome, with no line before the last;
 -- otherwise the line `run` comes first and the lines of the iterations behind it. Assumes nothing.
-use mathlib.Core.Path.{_≡_, refl, sym, ap, subst, _∙_}
+use mathlib.Core.Path.{_≡_, sym, _∙_}
 use mathlib.Core.List.{List}
 use Prim.Native.Nat.{ℕ, _+_, _≤_}
 use native.Mathlib.Omega.{arith}
