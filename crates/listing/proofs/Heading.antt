@@ -93,19 +93,10 @@ module _ (bytes : List ℕ) (ok : heading bytes .refusal ≡ 0) where
   starts : startRefusal (heading bytes .n) (heading bytes .t) (heading bytes .faulty) (rowsOf bytes) ≡ 0
   starts = start-accepted-is _ _ _ _ heading-starts
 
-  -- the start is not refused
-  pub start-passes : replyAfter bytes 0 .refusal ≡ 0
-  unfolding replyAfter after startReply
-  start-passes = starts
-
   pub start-state : stateAfter bytes 0
       ≡ startRun (heading bytes .n) (heading bytes .t) (heading bytes .faulty) (rowsOf bytes)
   unfolding stateAfter replyAfter after startReply
   start-state = cond-true _ zeros (eq-eqb _ 0 starts)
-
-  pub file-starts : refusedStart bytes ≡ 0
-  unfolding refusedStart
-  file-starts = first-passed _ _ ok ∙ start-passes
 
 -- a file that is not refused in place of the line `run` has a good heading
 pub heading-good : (bytes : List ℕ) → refusedStart bytes ≡ 0 → heading bytes .refusal ≡ 0

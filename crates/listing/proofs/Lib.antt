@@ -9,3 +9,4 @@ pub mod Alike
 pub mod Prefix
 pub mod Taken
 pub mod Room
+pub mod Wrong

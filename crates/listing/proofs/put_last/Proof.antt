@@ -23,14 +23,15 @@ same-length c = search needs
 returns : tie.Need-returns
 unfolding lastLine
 returns c =
-    let s = c .before .before .before .before .before .before .before .before in
+    let branch = c .before .before .before .before .before .before in
+    let s = branch .before .before in
     let a = s .args in
     let e = c .before .before .put-line .ensures in
     let put =
     put-line refused-word (a .refusal ∷ []) (a .text .now) _ (a .at) _ 26
     (refused-most (a .refusal) (s .fits .refusal .fits))
     (s .pre) (e .0) (e .1 .1) in
-    rw (ne-eqb (a .refusal) 0 (c .before .before .before .before .before .before .if1 .taken)) put
+    rw (ne-eqb (a .refusal) 0 (branch .if1 .taken)) put
 
 slice-aggregate-put-line-3 : tie.Need-slice-aggregate-put-line-3
 slice-aggregate-put-line-3 c = search needs
@@ -47,14 +48,15 @@ same-length-2 c = search needs
 returns-2 : tie.Need-returns-2
 unfolding lastLine
 returns-2 c =
-    let s = c .before .before .before .before .before .before .before .before in
+    let branch = c .before .before .before .before .before .before in
+    let s = branch .before .before in
     let a = s .args in
     let e = c .before .before .put-line2 .ensures in
     let put =
     put-line sent-word (a .sent ∷ []) (a .text .now) _ (a .at) _ 26
     (sent-most (a .sent) (s .fits .sent .fits))
     (s .pre) (e .0) (e .1 .1) in
-    rw (eq-eqb (a .refusal) 0 (c .before .before .before .before .before .before .if1 .left)) put
+    rw (eq-eqb (a .refusal) 0 (branch .if1 .left)) put
 
 pub put-last-spec : {M : Type 1} → statement M
 put-last-spec =

@@ -23,11 +23,12 @@ same-length c = search needs
 
 returns : tie.Need-returns
 returns c =
-    let t = c .before .before .before .before .before .before .before .before in
+    let last = c .before .before in
+    let t = last .before .before .before .before .before .before in
     let s = t .before .before .before .before .before in
     let told = t .tell-lines .ensures in
-    let put = c .before .before .put-last .ensures in
-    let room : c .before .before .put-last .result ≤ length (s .args .text .now) =
+    let put = last .put-last .ensures in
+    let room : last .put-last .result ≤ length (s .args .text .now) =
     omega (arith, told .1, put .1, s .pre) in
     let text = put-then (told .0 .text) (put .0) room in (
       record { outcome = told .0 .outcome; text = rw (with-last _ _ (told .0 .outcome)) at text },
