@@ -5,3 +5,4 @@ pub mod Most
 pub mod Places
 pub mod Refuse
 pub mod Sets
+pub mod Loops
