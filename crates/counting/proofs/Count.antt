@@ -251,6 +251,11 @@ find-cases (suc n) p f = go (p (f n)) refl (find-cases n p f)
         inr (rw e (w .0), λ k l. ⊎-elim (λ q. ap (λ (m : ℕ). p (f m)) q ∙ e) (λ b. w .1 k b) (at-or-below k n l))
 
 -- the turn of a loop that looks for a place, and has found none so far
+pub any-ext : (n : ℕ) (p q : ℕ → Bool) → ((k : ℕ) → k < n → p k ≡ q k) → any n p ≡ any n q
+unfolding any
+any-ext zero p q h = refl
+any-ext (suc n) p q h = ap₂ _||_ (any-ext n p q (lower n h)) (h n (le-refl _))
+
 pub any-turn : (n : ℕ) (p : ℕ → Bool) → any n p ≡ false → p n ≡ false → any (n + 1) p ≡ false
 unfolding any
 any-turn n p h e = rw add-one (or-none h e)

@@ -1,3 +1,4 @@
+-- What is never read: the rows of faulty boxes at a start, and a table's entries in sound senders' places.
 -- Entries of the table in a sound sender's place are never read. Two tables that differ only there give the same grades and
 -- messages, so the same rows and lists, and where they are equally long the same refusal; and so a whole run of such tables,
 -- since n and the faulty set stay.
@@ -8,22 +9,71 @@ use mathlib.Core.List.{List}
 use Prim.Native.Nat.{ℕ, zero, suc, _+_, _<_}
 use native.Mathlib.Nat.{le-refl}
 use lib.Dec.{eqb, ltb}
-use lib.ListN.{length, getD}
+use lib.ListN.{length, getD, replicate}
 use borrow.Author.Tests.{ltb-true}
 use Rattle.counting.specs.Count.{build}
 use Rattle.counting.specs.Sets.{member, setOf}
-use Rattle.counting.proofs.Bools.{and-left}
+use Rattle.counting.proofs.Bools.{and-left, and-right}
 use Rattle.counting.proofs.Build.{build-ext}
-use Rattle.counting.proofs.Count.{lower}
-use Rattle.sizes.specs.Sizes.{sound}
+use Rattle.counting.proofs.Count.{lower, any-ext}
+use Rattle.sizes.specs.Sizes.{sound, soundZero}
 use Rattle.tally.specs.Tally.{chosenRow}
 use Rattle.gradecast.specs.Steps.{confidence, gradeRow}
+use Rattle.gradecast.specs.Fair.{SoundBox}
 use Rattle.gradecast.specs.Lies.{SameLies}
 use Rattle.gradecast.proofs.Blind.{confidence-same, grade-row-same, messages-same}
 use Rattle.run.specs.declared.Run.{Run}
 use Rattle.run.specs.declared.Next.{Next}
 use Rattle.run.specs.Iteration.{gradedRows, confidences, newRow, newList, entry, nextRun}
-use Rattle.run.specs.State.{iterateRefusal, iterateReply, after}
+use Rattle.run.specs.State.{startRefusal, startRow, startRun, startReply, zeros, iterateRefusal, iterateReply, after}
+
+-- the places of a state agree where those of the sound boxes do
+places-same : (n faulty : ℕ) (f g : ℕ → ℕ) → ((i : ℕ) → SoundBox n faulty i → f i ≡ g i) →
+    build 13 (entry n faulty f) ≡ build 13 (entry n faulty g)
+unfolding entry
+places-same n faulty f g h =
+    build-ext 13 (entry n faulty f) (entry n faulty g) (λ i l. go i (ltb i n && sound faulty i) refl)
+  where
+    go : (i : ℕ) (c : Bool) → (ltb i n && sound faulty i) ≡ c → cond c (f i) 0 ≡ cond c (g i) 0
+    go i true e =
+        h i (record { below = ltb-true i n (and-left _ (sound faulty i) e); is-sound = and-right (ltb i n) _ e })
+    go i false e = refl
+
+-- a start ignores the rows of faulty boxes: two slices of one length that agree in the sound boxes' rows start alike
+module _ (n t faulty : ℕ) (a b : List ℕ) (whole : length a ≡ length b)
+    (same : (k : ℕ) → SoundBox n faulty k → getD a k 0 ≡ getD b k 0) where
+  zero-same : soundZero n faulty a ≡ soundZero n faulty b
+  unfolding soundZero
+  zero-same = any-ext n _ _ (λ k l. go k l (sound faulty k) refl)
+    where
+      go : (k : ℕ) → k < n → (c : Bool) → sound faulty k ≡ c →
+          (c && eqb (getD a k 0) 0) ≡ (c && eqb (getD b k 0) 0)
+      go k l true e = ap (λ (row : ℕ). eqb row 0) (same k (record { below = l; is-sound = e }))
+      go k l false e = refl
+
+  start-refusal-same : startRefusal n t faulty a ≡ startRefusal n t faulty b
+  unfolding startRefusal
+  start-refusal-same = rw (whole, zero-same) refl
+
+  start-run-same : startRun n t faulty a ≡ startRun n t faulty b
+  unfolding startRun startRow
+  start-run-same =
+      ap (λ (rows : List ℕ). record {
+        n = n;
+        t = t;
+        faulty = faulty;
+        done = 0;
+        sent = 0;
+        rows = rows;
+        lists = replicate 13 0;
+      })
+      (places-same n faulty (λ k. getD a k 0) (λ k. getD b k 0) same)
+
+  pub start-blind : startReply n t faulty a ≡ startReply n t faulty b
+  unfolding startReply
+  start-blind =
+      ap₂ (λ (refusal : ℕ) (s : Run). record { refusal = refusal; run = cond (eqb refusal 0) s zeros })
+      start-refusal-same start-run-same
 
 module _ (s : Run) (a b : List ℕ) (same : SameLies (s .n) (s .faulty) a b) where
   confidences-same : (i : ℕ) → i < s .n → confidences s a i ≡ confidences s b i
@@ -51,16 +101,6 @@ module _ (s : Run) (a b : List ℕ) (same : SameLies (s .n) (s .faulty) a b) whe
   new-list-same i l =
       ap (λ (cs : List ℕ). setOf (s .n) (λ k. member (getD (s .lists) i 0) k || ltb (getD cs k 0) 2)) (confidences-same i l)
 
-  -- the places of the next state agree where those of the sound boxes do
-  places-same : (f g : ℕ → ℕ) → ((i : ℕ) → i < s .n → f i ≡ g i) → build 13 (entry (s .n) (s .faulty) f) ≡ build 13 (entry (s .n) (s .faulty) g)
-  unfolding entry
-  places-same f g h =
-      build-ext 13 (entry (s .n) (s .faulty) f) (entry (s .n) (s .faulty) g) (λ i l. go i (ltb i (s .n) && sound (s .faulty) i) refl)
-    where
-      go : (i : ℕ) (c : Bool) → (ltb i (s .n) && sound (s .faulty) i) ≡ c → cond c (f i) 0 ≡ cond c (g i) 0
-      go i true e = h i (ltb-true i (s .n) (and-left (ltb i (s .n)) (sound (s .faulty) i) e))
-      go i false e = refl
-
   next-same : nextRun s a ≡ nextRun s b
   unfolding nextRun
   next-same =
@@ -71,8 +111,8 @@ module _ (s : Run) (a b : List ℕ) (same : SameLies (s .n) (s .faulty) a b) whe
         faulty = s .faulty;
         done = s .done + 1;
         sent = s .sent + messages-same (s .n) (s .t) (s .faulty) (s .rows) (s .lists) a b same d;
-        rows = places-same (newRow s a) (newRow s b) new-row-same d;
-        lists = places-same (newList s a) (newList s b) new-list-same d;
+        rows = places-same (s .n) (s .faulty) (newRow s a) (newRow s b) (λ i b. new-row-same i (b .below)) d;
+        lists = places-same (s .n) (s .faulty) (newList s a) (newList s b) (λ i b. new-list-same i (b .below)) d;
       }
 
   refusal-same : length a ≡ length b → iterateRefusal s a ≡ iterateRefusal s b

@@ -1,10 +1,11 @@
 pub mod Accepted
 pub mod Blind
+pub mod Calls
 pub mod Closed
+pub mod Course
 pub mod Entries
 pub mod Fits
 pub mod Kept
 pub mod Parts
 pub mod Refusals
-pub mod Unique
 pub mod Whole

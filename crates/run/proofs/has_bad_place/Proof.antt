@@ -1,25 +1,21 @@
 -- `run::has_bad_place` meets its contract: a turn ends the search at a bad place, and otherwise none of the first k + 1 is bad. What is left
 -- of 13 falls. Assumes nothing.
-use mathlib.Core.Path.{_≡_, sym, _∙_}
-use mathlib.Core.Bool.{false}
-use Prim.Native.Nat.{_≤_, _-_}
+use Prim.Native.Nat.{_-_}
 use native.Mathlib.Omega.{arith}
-use Rattle.counting.specs.Count.{any}
-use Rattle.counting.proofs.Count.{any-turn, some-any}
+use Rattle.counting.proofs.Loops.{NoneYet, search-begins, search-turn, search-hits, search-ends}
 use Rattle.run.specs.State.{badPlace}
 use borrow.Author.Needs.{needs}
 use Rattle.run.proofs.has_bad_place.Statement.{statement}
 use Rattle.run.proofs.has_bad_place.Tie as tie
 
 abbrev Inv-loop : tie.InvT-loop
-Inv-loop s k₀ k = (k ≤ 13) × (any k (badPlace s) ≡ false)
+Inv-loop s k₀ k = NoneYet 13 (badPlace s) k
 
 abbrev μ-loop : tie.MeasureT-loop
 μ-loop s k₀ k = 13 - k
 
 loop-holds : tie.Need-loop-holds Inv-loop μ-loop
-unfolding any
-loop-holds c = search needs
+loop-holds c = search-begins _
 
 mul-is-bad-place : tie.Need-mul-is-bad-place Inv-loop μ-loop
 mul-is-bad-place c = search needs
@@ -38,7 +34,7 @@ is-bad-place-requires c κs = search needs
 
 returns : tie.Need-returns Inv-loop μ-loop
 unfolding badPlace
-returns c = sym (some-any _ _ (c .before .before .before .before .before .loop .k) (search needs) (sym (c .before .is-bad-place .ensures) ∙ c .if1 .taken))
+returns c = search-hits _ (search needs) (c .before .is-bad-place .ensures) (c .if1 .taken)
 
 add-k : tie.Need-add-k Inv-loop μ-loop
 add-k c = search needs
@@ -48,10 +44,11 @@ loop-less c = search needs
 
 loop-again : tie.Need-loop-again Inv-loop μ-loop
 unfolding badPlace
-loop-again c = (search needs, any-turn _ _ (c .before .before .before .before .before .loop .inv .1) (sym (c .before .is-bad-place .ensures) ∙ c .if1 .left))
+loop-again c =
+    search-turn _ (search needs) (search needs) (c .before .is-bad-place .ensures) (c .if1 .left)
 
 returns-2 : tie.Need-returns-2 Inv-loop μ-loop
-returns-2 c = let whole : c .before .loop .k ≡ 13 = omega arith in rw (← whole) (sym (c .before .loop .inv .1))
+returns-2 c = search-ends _ (c .before .loop .inv) (omega arith)
 
 pub has-bad-place-spec : {M : Type 1} → statement M
 has-bad-place-spec =

@@ -1,6 +1,6 @@
 -- `run::start` meets its contract: it refuses with a state of zeros, and otherwise builds the state from the rows.
 -- Assumes nothing.
-use mathlib.Core.Path.{sym, _∙_}
+use mathlib.Core.Path.{_≡_, sym, _∙_}
 use lib.ListN.{replicate}
 use Rattle.run.specs.State.{startRun}
 use Rattle.run.proofs.Accepted.{is-start-accepted}
@@ -8,6 +8,7 @@ use Rattle.run.proofs.Refusals.{start-refused, start-taken}
 use borrow.Author.Needs.{needs}
 use Rattle.run.proofs.start.Statement.{statement}
 use Rattle.run.proofs.start.Tie as tie
+use Rattle.run.proofs.start.Reads as Reads
 
 start-refusal-requires : tie.Need-start-refusal-requires
 start-refusal-requires c κs = search needs
@@ -31,3 +32,7 @@ returns-2 c =
 
 pub start-spec : {M : Type 1} → statement M
 start-spec = tie.close (tie.spec start-refusal-requires no-run-requires returns start-rows-requires returns-2)
+
+-- the contract admits one reply
+pub only-one : (κs : _) (a : _) (r s : _) (x y : _) → Reads.Post κs a r x → Reads.Post κs a s y → r ≡ s
+only-one κs a r s x y p q = p ∙ sym q

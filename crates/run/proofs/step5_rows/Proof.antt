@@ -1,11 +1,10 @@
 -- `run::step5_rows` meets its contract: after i turns the first i rows are filled. What is left of 13 falls. Assumes nothing.
-use mathlib.Core.Path.{_≡_, refl}
+use mathlib.Core.Path.{refl}
 use mathlib.Core.List.{List}
-use Prim.Native.Nat.{ℕ, _≤_, _-_}
+use Prim.Native.Nat.{ℕ, _-_}
 use native.Mathlib.Omega.{arith}
 use lib.ListN.{replicate}
-use Rattle.counting.specs.Count.{front}
-use Rattle.counting.proofs.Build.{front-none, front-turn, front-whole, front-all}
+use Rattle.counting.proofs.Loops.{Filled, fill-begins, fill-turn, fill-ends}
 use Rattle.run.specs.Grades.{GradesOf}
 use Rattle.run.specs.Iteration.{newRow, entry}
 use borrow.Author.Needs.{needs}
@@ -14,18 +13,17 @@ use Rattle.run.proofs.step5_rows.Tie as tie
 
 abbrev Inv-loop : tie.InvT-loop
 Inv-loop s rows confidences out₀ i₀ out i =
-    (i ≤ 13) ×
-    ((table : List ℕ) → GradesOf s table rows confidences →
-    out ≡ front i (entry (s .n) (s .faulty) (newRow s table)) (replicate 13 0))
+    (table : List ℕ) → GradesOf s table rows confidences →
+    Filled 13 (entry (s .n) (s .faulty) (newRow s table)) (replicate 13 0) i out
 
 abbrev μ-loop : tie.MeasureT-loop
 μ-loop s rows confidences out₀ i₀ out i = 13 - i
 
 loop-holds : tie.Need-loop-holds Inv-loop μ-loop
-loop-holds c = (search needs, λ table g. front-none _ (replicate 13 0))
+loop-holds c = λ table g. fill-begins _ (replicate 13 0)
 
 row-at-requires : tie.Need-row-at-requires Inv-loop μ-loop
-row-at-requires c κs = (c .before .before .before .before .pre, c .loop-test .taken)
+row-at-requires c κs = (search needs, c .loop-test .taken)
 
 mul-out : tie.Need-mul-out Inv-loop μ-loop
 mul-out c = search needs
@@ -40,10 +38,13 @@ loop-less : tie.Need-loop-less Inv-loop μ-loop
 loop-less c = search needs
 
 loop-again : tie.Need-loop-again Inv-loop μ-loop
-loop-again c = (search needs, λ table g. front-turn _ _ (replicate 13 0) _ (search needs) (c .before .before .loop .inv .1 table g) (c .row-at .ensures table g))
+loop-again c =
+    λ table g.
+    let filled = c .before .before .loop .inv table g in
+    fill-turn _ (replicate 13 0) refl filled (c .before .loop-test .taken) (c .row-at .ensures table g)
 
 returns : tie.Need-returns Inv-loop μ-loop
-returns c = λ table g. front-all _ (replicate 13 0) 13 refl (front-whole _ (replicate 13 0) (omega arith) (c .before .loop .inv .1 table g))
+returns c = λ table g. fill-ends _ (replicate 13 0) refl (c .before .loop .inv table g) (omega arith)
 
 pub step5-rows-spec : {M : Type 1} → statement M
 step5-rows-spec =

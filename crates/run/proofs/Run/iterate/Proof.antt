@@ -1,6 +1,6 @@
 -- `run::Run::iterate` meets its contract: it refuses with the state as it came; otherwise steps 1 to 4 are gradecast's, step 5 fills the rows
 -- and the lists, and the counter grows by the messages. Assumes nothing.
-use mathlib.Core.Path.{sym, _∙_}
+use mathlib.Core.Path.{_≡_, sym, _∙_}
 use native.Mathlib.Omega.{arith}
 use Rattle.run.proofs.Accepted.{Accepted, is-accepted}
 use Rattle.run.proofs.Refusals.{iterate-refused, iterate-taken}
@@ -8,6 +8,7 @@ use Rattle.run.proofs.Whole.{high, done-small, sent-small, grades, cast
 use borrow.Author.Needs.{needs}
 use Rattle.run.proofs.Run.iterate.Statement.{statement}
 use Rattle.run.proofs.Run.iterate.Tie as tie
+use Rattle.run.proofs.Run.iterate.Reads as Reads
 
 -- where the refusal is 0 the call is accepted
 accepted : (c : tie.Else1) → Accepted (c .before .before .before .args .self) (c .before .before .before .args .table .now)
@@ -59,3 +60,7 @@ iterate-spec =
     add-t21
     add-t23
     returns-2)
+
+-- the contract admits one reply
+pub only-one : (κs : _) (a : _) (r s : _) (x y : _) → Reads.Post κs a r x → Reads.Post κs a s y → r ≡ s
+only-one κs a r s x y p q = p ∙ sym q
