@@ -23,39 +23,45 @@ use Rattle.gradecast.specs.Fair.{SoundBox, Fair}
 use Rattle.gradecast.proofs.Properties.{gradecast}
 use Rattle.run.specs.declared.Run.{Run}
 use Rattle.run.specs.Iteration.{nextRun}
-use Rattle.run.specs.State.{startRefusal, startRun, startReply, zeros, iterateRefusal, iterateReply, after}
+use Rattle.run.specs.declared.Next.{Next}
+use Rattle.run.specs.State.{startRun, after}
 use Rattle.run.specs.Legal.{Legal}
-use Rattle.run.proofs.Accepted.{start-accepted-is, accepted-is, not-zero-rows}
-use Rattle.run.proofs.Closed.{start-legal, start-not-zero, next-legal}
+use Rattle.run.proofs.Accepted.{not-zero-rows}
+use Rattle.run.proofs.Calls.{Calls, calls-are}
+use Rattle.run.proofs.Closed.{start-not-zero}
+use Rattle.run.proofs.Course.{Stands, start-run, stands, next-state, none-refused}
 use Rattle.run.proofs.Kept.{start-row, start-list}
-use Rattle.agreement.specs.Demand.{iterations, Setting, AllHold, SameRow, reply, rowsAfter, listsAfter, NotRefused, Agrees, Valid, NeverListed, NeverZero, Promises, SplitsJoin, Demand3}
+use Rattle.agreement.specs.Demand.{
+  iterations,
+  Setting,
+  AllHold,
+  SameRow,
+  replies,
+  rowsAfter,
+  listsAfter,
+  Agrees,
+  Valid,
+  NeverListed,
+  NeverZero,
+  Promises,
+  SplitsJoin,
+  Demand3,
+}
 use Rattle.agreement.proofs.Condemned.{condemned, condemned-few}
 use Rattle.agreement.proofs.Iteration.{next-fair, rows-stay, same-or-split, split-joins, split-more}
 
--- the state after m iterations of a run
-record Going (n t faulty m : ℕ) (s : Run) : Type 0 where
-  same-n : s .n ≡ n
-  same-t : s .t ≡ t
-  same-faulty : s .faulty ≡ faulty
-  done-m : s .done ≡ m
-  legal : Legal s
-  fair : Fair (s .n) (s .t) (s .faulty) (s .rows) (s .lists)
+-- a state is fair, by its own n, t and faulty set
+abbrev FairState : Run → Type 0
+FairState s = Fair (s .n) (s .t) (s .faulty) (s .rows) (s .lists)
 
-next-going : {n t faulty m : ℕ} {s : Run} (table : List ℕ) → Going n t faulty m s → Going n t faulty (suc m) (nextRun s table)
+fair-next : (s : Run) (table : List ℕ) → Legal s → FairState s → FairState (nextRun s table)
 unfolding nextRun
-next-going {s = s} table g =
-    record {
-      same-n = g .same-n;
-      same-t = g .same-t;
-      same-faulty = g .same-faulty;
-      done-m = add-one (s .done) ∙ ap suc (g .done-m);
-      legal = next-legal s table (g .legal);
-      fair = next-fair s table (g .legal) (g .fair);
-    }
+fair-next = next-fair
 
 module _ (n t faulty : ℕ) (rows : List ℕ) (tables : ℕ → List ℕ) (setting : Setting n t faulty rows tables) where
-  accepted-start : Startable n t faulty rows
-  accepted-start =
+  -- the start is taken
+  starts : Startable n t faulty rows
+  starts =
       record {
         pass4 = inside n (setting .from-1) (setting .to-13);
         pass5 = tolerated n t (omega (arith, setting .tolerated));
@@ -64,60 +70,38 @@ module _ (n t faulty : ℕ) (rows : List ℕ) (tables : ℕ → List ℕ) (setti
         pass9 = not-zero-rows n faulty rows (λ k b e. absurd (omega (arith, setting .none-zero k b)));
       }
 
-  start-going : Going n t faulty 0 (startRun n t faulty rows)
-  unfolding startRun
-  start-going =
-      record {
-        same-n = refl;
-        same-t = refl;
-        same-faulty = refl;
-        done-m = refl;
-        legal = start-legal n t faulty rows accepted-start;
-        fair =
-            record {
-              tolerated = omega (arith, setting .tolerated);
-              few = omega (arith, setting .few);
-              none-listed =
-                  λ i k si sk.
-                  let l = si .below in
-                  let high = setting .to-13 in
-                  ap (λ (list : ℕ). member list k) (start-list n t faulty rows i (omega arith)) ∙ member-empty k;
-              none-zero = start-not-zero n t faulty rows accepted-start;
-            };
-      }
-
-  start-refusal : startRefusal n t faulty rows ≡ 0
-  start-refusal = start-accepted-is n t faulty rows accepted-start
-
-  start-run : startReply n t faulty rows .run ≡ startRun n t faulty rows
-  unfolding startReply
-  start-run = cond-true (startRun n t faulty rows) zeros (eq-eqb (startRefusal n t faulty rows) 0 start-refusal)
+  abbrev reply : ℕ → Next
+  reply = replies n t faulty rows tables
 
   abbrev state : ℕ → Run
-  state m = reply n t faulty rows tables m .run
+  state m = reply m .run
 
-  -- the state that an iteration finds passes its tests
-  step-refusal : (m : ℕ) → m < iterations t → Going n t faulty m (state m) → iterateRefusal (state m) (tables m) ≡ 0
-  step-refusal m l g =
-      accepted-is (state m) (tables m)
-      (record {
-        legal = g .legal;
-        rows-of-table = setting .sized m l ∙ ap tableRows (sym (g .same-n));
-        done-few = omega (arith, g .done-m, g .same-t);
-      })
+  stands-at : (m : ℕ) → m ≤ iterations t → Stands n t faulty m (state m)
+  stands-at = stands n t faulty rows tables starts (setting .sized)
 
-  step-run : (m : ℕ) → m < iterations t → Going n t faulty m (state m) → state (suc m) ≡ nextRun (state m) (tables m)
-  unfolding after iterateReply
-  step-run m l g =
-      cond-true (nextRun (state m) (tables m)) (state m)
-      (eq-eqb (iterateRefusal (state m) (tables m)) 0 (step-refusal m l g))
+  step-run : (m : ℕ) → m < iterations t → state (suc m) ≡ nextRun (state m) (tables m)
+  step-run = next-state n t faulty rows tables starts (setting .sized)
 
-  going : (m : ℕ) → m ≤ iterations t → Going n t faulty m (state m)
+  start-fair : FairState (startRun n t faulty rows)
+  unfolding startRun
+  start-fair =
+      record {
+        tolerated = omega (arith, setting .tolerated);
+        few = omega (arith, setting .few);
+        none-listed =
+            λ i k si sk.
+            let l = si .below in
+            let high = setting .to-13 in
+            ap (λ (list : ℕ). member list k) (start-list n t faulty rows i (omega arith)) ∙ member-empty k;
+        none-zero = start-not-zero n t faulty rows starts;
+      }
+
+  fair-state : (m : ℕ) → m ≤ iterations t → FairState (state m)
   unfolding after
-  going zero h = subst (Going n t faulty 0) (sym start-run) start-going
-  going (suc m) h =
-      let g = going m (omega arith) in
-      subst (Going n t faulty (suc m)) (sym (step-run m h g)) (next-going (tables m) g)
+  fair-state zero h = subst FairState (sym (start-run starts)) start-fair
+  fair-state (suc m) h =
+      subst FairState (sym (step-run m h))
+      (fair-next (state m) (tables m) (stands-at m (omega arith) .legal) (fair-state m (omega arith)))
 
   -- what one iteration brings, by the state's own n, t and faulty set, it brings by those of the run
   onward : (P : ℕ → ℕ → ℕ → Run → Type 0) (m : ℕ) → m < iterations t →
@@ -125,27 +109,28 @@ module _ (n t faulty : ℕ) (rows : List ℕ) (tables : ℕ → List ℕ) (setti
       P (state m .n) (state m .t) (state m .faulty) (nextRun (state m) (tables m))) →
       P n t faulty (state (suc m))
   onward P m l h =
-      let g = going m (omega arith) in
-      subst (P n t faulty) (sym (step-run m l g))
+      let g = stands-at m (omega arith) in
+      subst (P n t faulty) (sym (step-run m l))
       (subst₃ (λ (a b c : ℕ). P a b c (nextRun (state m) (tables m))) (g .same-n) (g .same-t) (g .same-faulty)
-      (h (g .legal) (g .fair)))
+      (h (g .legal) (fair-state m (omega arith))))
 
   -- a state is fair by n, t and the faulty set of the run
-  fair-after : (m : ℕ) → m ≤ iterations t → Fair n t faulty (rowsAfter n t faulty rows tables m) (listsAfter n t faulty rows tables m)
+  fair-after : (m : ℕ) → m ≤ iterations t → Fair n t faulty (rowsAfter reply m) (listsAfter reply m)
   fair-after m h =
-      let g = going m h in
-      subst₃ (λ (a b c : ℕ). Fair a b c (state m .rows) (state m .lists)) (g .same-n) (g .same-t) (g .same-faulty) (g .fair)
+      let g = stands-at m h in
+      subst₃ (λ (a b c : ℕ). Fair a b c (state m .rows) (state m .lists)) (g .same-n) (g .same-t) (g .same-faulty)
+      (fair-state m h)
 
-  never-listed : NeverListed n t faulty rows tables
+  never-listed : NeverListed n t faulty tables reply
   never-listed m h = fair-after m h .none-listed
 
-  never-zero : NeverZero n t faulty rows tables
+  never-zero : NeverZero n t faulty tables reply
   never-zero m h = fair-after m h .none-zero
 
-  promises : Promises n t faulty rows tables
+  promises : Promises n t faulty tables reply
   promises m l = gradecast (fair-after m (omega arith)) (tables m)
 
-  splits-join : SplitsJoin n t faulty rows tables
+  splits-join : SplitsJoin n t faulty tables reply
   splits-join m l i j k si sj b counts none =
       onward
       (λ (a b c : ℕ) (s : Run).
@@ -159,10 +144,10 @@ module _ (n t faulty : ℕ) (rows : List ℕ) (tables : ℕ → List ℕ) (setti
       onward (λ (a b c : ℕ) (s : Run). AllHold a c (state m .rows) v → AllHold a c (s .rows) v) m l
       (λ legal fair. rows-stay (state m) (tables m) legal fair v)
 
-  valid : Valid n t faulty rows tables
+  valid : Valid n t faulty tables reply rows
   unfolding after
   valid v h zero l =
-      subst (λ (s : Run). AllHold n faulty (s .rows) v) (sym start-run)
+      subst (λ (s : Run). AllHold n faulty (s .rows) v) (sym (start-run starts))
       (λ i si. start-row n t faulty rows i (setting .to-13) si ∙ h i si)
   valid v h (suc m) l = stays m l v (valid v h m (omega arith))
 
@@ -192,12 +177,7 @@ module _ (n t faulty : ℕ) (rows : List ℕ) (tables : ℕ → List ℕ) (setti
           (same-or-split (state m) (tables m) legal fair))
           c
 
-  not-refused : NotRefused n t faulty rows tables
-  unfolding after iterateReply startReply
-  not-refused zero h = start-refusal
-  not-refused (suc m) h = step-refusal m h (going m (omega arith))
-
-  agrees : Agrees n t faulty rows tables
+  agrees : Agrees n t faulty tables reply
   agrees =
       ⊎-elim
       (λ same. same)
@@ -211,10 +191,11 @@ module _ (n t faulty : ℕ) (rows : List ℕ) (tables : ℕ → List ℕ) (setti
       )))
       (progress (iterations t) (le-refl _))
 
-  pub demand3 : Demand3 n t faulty rows tables
-  demand3 =
+  -- demand 3 of the replies that the definitions give
+  pub replies-keep : Demand3 n t faulty rows tables reply
+  replies-keep =
       record {
-        not-refused = not-refused;
+        not-refused = none-refused n t faulty rows tables starts (setting .sized);
         agrees = agrees;
         valid = valid;
         never-listed = never-listed;
@@ -222,3 +203,11 @@ module _ (n t faulty : ℕ) (rows : List ℕ) (tables : ℕ → List ℕ) (setti
         promises = promises;
         splits-join = splits-join;
       }
+
+-- demand 3, of any replies of which the first meets the contract of `start` and each next one that of `iterate`, on the
+-- state before it and its table
+pub demand3 : {n t faulty : ℕ} {rows : List ℕ} {tables : ℕ → List ℕ} {reply : ℕ → Next} →
+    Setting n t faulty rows tables → Calls n t faulty rows tables reply → Demand3 n t faulty rows tables reply
+demand3 {n} {t} {faulty} {rows} {tables} setting calls =
+    subst (Demand3 n t faulty rows tables) (λ i m. sym (calls-are calls m) i)
+    (replies-keep n t faulty rows tables setting)

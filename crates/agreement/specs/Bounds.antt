@@ -6,7 +6,7 @@ use lib.ListN.{getD, set, replicate}
 use Rattle.gradecast.specs.Steps.{place1, place2, place3, voted}
 use Rattle.gradecast.specs.Lies.{silent}
 use Rattle.gradecast.specs.Fair.{faultyBoxes, NoSoundListed, SoundRowsNotZero}
-use Rattle.agreement.specs.Demand.{Setting, reply, rowsAfter, confidenceIn}
+use Rattle.agreement.specs.Demand.{Setting, replies, rowsAfter, confidenceIn}
 
 -- box 3 of 4 sends, all for itself as leader: in step 1 20 to boxes 0 and 1, in step 2 20 to box 0, in step 3 20 to box 1
 abbrev pub splitting : ℕ → List ℕ
@@ -21,10 +21,10 @@ three = 10 ∷ 20 ∷ 30 ∷ 0 ∷ []
 -- boxes 0 and 1 hold different rows
 pub record TooFewIterations : Type 0 where
   pub setting : Setting 4 1 8 three splitting
-  pub counts : confidenceIn 4 1 8 three splitting 0 1 3 ≡ 1
-  pub leaves : confidenceIn 4 1 8 three splitting 0 0 3 ≡ 0
-  pub box0 : getD (rowsAfter 4 1 8 three splitting 1) 0 0 ≡ 10
-  pub box1 : getD (rowsAfter 4 1 8 three splitting 1) 1 0 ≡ 20
+  pub counts : confidenceIn 4 1 8 splitting (replies 4 1 8 three splitting) 0 1 3 ≡ 1
+  pub leaves : confidenceIn 4 1 8 splitting (replies 4 1 8 three splitting) 0 0 3 ≡ 0
+  pub box0 : getD (rowsAfter (replies 4 1 8 three splitting) 1) 0 0 ≡ 10
+  pub box1 : getD (rowsAfter (replies 4 1 8 three splitting) 1) 1 0 ≡ 20
 
 -- box 2 of 3 sends in step 3, for itself as leader, 5 to box 0 and 7 to box 1
 abbrev pub twoFaced : ℕ → List ℕ
@@ -37,10 +37,10 @@ two = 10 ∷ 20 ∷ 0 ∷ []
 -- t + 1 faulty boxes are too many: with t = 0 and one faulty box no call is refused, and boxes 0 and 1 end with different rows
 pub record TooManyFaulty : Type 0 where
   pub faulty-boxes : faultyBoxes 3 4 ≡ 0 + 1
-  pub start : reply 3 0 4 two twoFaced 0 .refusal ≡ 0
-  pub iteration : reply 3 0 4 two twoFaced (0 + 1) .refusal ≡ 0
-  pub box0 : getD (rowsAfter 3 0 4 two twoFaced (0 + 1)) 0 0 ≡ 5
-  pub box1 : getD (rowsAfter 3 0 4 two twoFaced (0 + 1)) 1 0 ≡ 7
+  pub start : replies 3 0 4 two twoFaced 0 .refusal ≡ 0
+  pub iteration : replies 3 0 4 two twoFaced (0 + 1) .refusal ≡ 0
+  pub box0 : getD (rowsAfter (replies 3 0 4 two twoFaced) (0 + 1)) 0 0 ≡ 5
+  pub box1 : getD (rowsAfter (replies 3 0 4 two twoFaced) (0 + 1)) 1 0 ≡ 7
 
 -- box 2 of 3 sends, for itself as leader, 5 to box 0 and 7 to box 1, in step 1 and in step 2
 abbrev pub wavering : List ℕ

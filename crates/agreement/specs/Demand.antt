@@ -1,5 +1,5 @@
--- Demand 3: what is assumed of a run, and what is claimed of it. `startReply` and `after` are the definitions that the code's
--- contracts cite. Boxes count from 0. A claim is made for every set of faulty boxes and for everything that they send.
+-- Demand 3: what is assumed of a run, and what is claimed of the replies, of which the first is a start's and each next one
+-- an iteration's. Boxes count from 0. A claim is made for every set of faulty boxes and for everything that they send.
 use Prim.Native.Nat.{ℕ, suc, _+_, _*_, _^_, _≤_, _<_}
 use mathlib.Core.Path.{_≡_}
 use mathlib.Core.Bool.{true}
@@ -36,22 +36,22 @@ AllHold n faulty rows v = (i : ℕ) → SoundBox n faulty i → getD rows i 0 �
 abbrev pub SameRow : ℕ → ℕ → List ℕ → Type 0
 SameRow n faulty rows = (i j : ℕ) → SoundBox n faulty i → SoundBox n faulty j → getD rows i 0 ≡ getD rows j 0
 
-module _ (n t faulty : ℕ) (rows : List ℕ) (tables : ℕ → List ℕ) where
-  -- the reply of the start, and then of each iteration
-  abbrev pub reply : ℕ → Next
-  reply m = after (startReply n t faulty rows) tables m
+-- the replies of a run by the definitions that the contracts cite: the start's, and then that of each iteration
+abbrev pub replies : ℕ → ℕ → ℕ → List ℕ → (ℕ → List ℕ) → ℕ → Next
+replies n t faulty rows tables m = after (startReply n t faulty rows) tables m
 
-  -- the rows of the boxes after m iterations
-  abbrev pub rowsAfter : ℕ → List ℕ
-  rowsAfter m = reply m .run .rows
+-- the rows of the boxes after m iterations
+abbrev pub rowsAfter : (ℕ → Next) → ℕ → List ℕ
+rowsAfter reply m = reply m .run .rows
 
-  -- the lists of the boxes after m iterations
-  abbrev pub listsAfter : ℕ → List ℕ
-  listsAfter m = reply m .run .lists
+-- the lists of the boxes after m iterations
+abbrev pub listsAfter : (ℕ → Next) → ℕ → List ℕ
+listsAfter reply m = reply m .run .lists
 
+module _ (n t faulty : ℕ) (tables : ℕ → List ℕ) (reply : ℕ → Next) where
   -- the confidence of box i in leader k, in the iteration that follows m others
   abbrev pub confidenceIn : ℕ → ℕ → ℕ → ℕ
-  confidenceIn m i k = confidence n t faulty (rowsAfter m) (listsAfter m) (tables m) i k
+  confidenceIn m i k = confidence n t faulty (rowsAfter reply m) (listsAfter reply m) (tables m) i k
 
   -- no call is refused
   abbrev pub NotRefused : Type 0
@@ -59,37 +59,37 @@ module _ (n t faulty : ℕ) (rows : List ℕ) (tables : ℕ → List ℕ) where
 
   -- agreement: after all iterations every sound box holds the same row
   abbrev pub Agrees : Type 0
-  Agrees = SameRow n faulty (rowsAfter (iterations t))
+  Agrees = SameRow n faulty (rowsAfter reply (iterations t))
 
   -- validity: where all sound boxes start with one row, they hold it after every iteration
-  abbrev pub Valid : Type 0
-  Valid = (v : ℕ) → AllHold n faulty rows v → (m : ℕ) → m ≤ iterations t → AllHold n faulty (rowsAfter m) v
+  abbrev pub Valid : List ℕ → Type 0
+  Valid rows = (v : ℕ) → AllHold n faulty rows v → (m : ℕ) → m ≤ iterations t → AllHold n faulty (rowsAfter reply m) v
 
   -- no sound box is ever on a sound box's list
   abbrev pub NeverListed : Type 0
-  NeverListed = (m : ℕ) → m ≤ iterations t → NoSoundListed n faulty (listsAfter m)
+  NeverListed = (m : ℕ) → m ≤ iterations t → NoSoundListed n faulty (listsAfter reply m)
 
   -- no sound box's row is ever 0
   abbrev pub NeverZero : Type 0
-  NeverZero = (m : ℕ) → m ≤ iterations t → SoundRowsNotZero n faulty (rowsAfter m)
+  NeverZero = (m : ℕ) → m ≤ iterations t → SoundRowsNotZero n faulty (rowsAfter reply m)
 
   -- gradecast keeps its promises in every iteration
   abbrev pub Promises : Type 0
-  Promises = (m : ℕ) → m < iterations t → Gradecast n t faulty (rowsAfter m) (listsAfter m) (tables m)
+  Promises = (m : ℕ) → m < iterations t → Gradecast n t faulty (rowsAfter reply m) (listsAfter reply m) (tables m)
 
   -- a leader that one sound box counts and another does not is on every sound box's list after that iteration
   abbrev pub SplitsJoin : Type 0
   SplitsJoin =
       (m : ℕ) → m < iterations t → (i j k : ℕ) → SoundBox n faulty i → SoundBox n faulty j → k < n →
       1 ≤ confidenceIn m i k → confidenceIn m j k ≡ 0 →
-      (l : ℕ) → SoundBox n faulty l → member (getD (listsAfter (suc m)) l 0) k ≡ true
+      (l : ℕ) → SoundBox n faulty l → member (getD (listsAfter reply (suc m)) l 0) k ≡ true
 
 -- demand 3
-pub record Demand3 (n t faulty : ℕ) (rows : List ℕ) (tables : ℕ → List ℕ) : Type 0 where
-  pub not-refused : NotRefused n t faulty rows tables
-  pub agrees : Agrees n t faulty rows tables
-  pub valid : Valid n t faulty rows tables
-  pub never-listed : NeverListed n t faulty rows tables
-  pub never-zero : NeverZero n t faulty rows tables
-  pub promises : Promises n t faulty rows tables
-  pub splits-join : SplitsJoin n t faulty rows tables
+pub record Demand3 (n t faulty : ℕ) (rows : List ℕ) (tables : ℕ → List ℕ) (reply : ℕ → Next) : Type 0 where
+  pub not-refused : NotRefused n t faulty tables reply
+  pub agrees : Agrees n t faulty tables reply
+  pub valid : Valid n t faulty tables reply rows
+  pub never-listed : NeverListed n t faulty tables reply
+  pub never-zero : NeverZero n t faulty tables reply
+  pub promises : Promises n t faulty tables reply
+  pub splits-join : SplitsJoin n t faulty tables reply

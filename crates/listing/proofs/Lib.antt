@@ -6,6 +6,7 @@ pub mod Table
 pub mod Iterations
 pub mod Whole
 pub mod Alike
+pub mod Calls
 pub mod Prefix
 pub mod Taken
 pub mod Room

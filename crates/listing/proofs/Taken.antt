@@ -16,12 +16,10 @@ use Rattle.counting.proofs.Bools.{cond-true, cond-false, not-both}
 use Rattle.counting.proofs.Build.{length-build}
 use Rattle.sizes.specs.Sizes.{tableRows}
 use Rattle.sizes.proofs.Laws.{within-lt}
-use Rattle.gradecast.specs.Fair.{faultyBoxes, NoSoundListed}
-use Rattle.run.specs.declared.Run.{Run}
-use Rattle.run.specs.State.{after}
+use Rattle.gradecast.specs.Fair.{faultyBoxes}
 use Rattle.run.proofs.Accepted.{rows-not-zero}
-use Rattle.agreement.specs.Demand.{Setting, AllHold, SameRow}
-use Rattle.agreement.proofs.Agreement.{demand3}
+use Rattle.agreement.specs.Demand.{Setting}
+use Rattle.agreement.proofs.Agreement.{replies-keep}
 use Rattle.runfile.specs.File.{tableRow}
 use Rattle.lines.specs.Line.{lineOf}
 use Rattle.listing.specs.File.{heading, rowsOf, bytesOf, tableOf, replyAfter, stateAfter, refusedStart, refusedAt, due}
@@ -112,23 +110,19 @@ module _ (bytes : List ℕ) where
           sized = λ m l. length-build (tableRows (heading bytes .n)) (tableRow (bytesOf (heading bytes .n) bytes m));
         }
 
-    -- demand 3 of a file
-    pub file-demand3 : faultyBoxes (heading bytes .n) (heading bytes .faulty) ≤ heading bytes .t → Demand3Of bytes
+    -- demand 3 of the outcome that the definition gives
+    pub outcome-keeps : faultyBoxes (heading bytes .n) (heading bytes .faulty) ≤ heading bytes .t →
+        Demand3Of bytes (outcomeOf bytes .run)
     unfolding stateAfter replyAfter due
-    file-demand3 few =
-        let d = demand3 _ _ _ _ _ (setting few) in
-        let n = heading bytes .n in
-        let f = heading bytes .faulty in
-        record {
-          agrees = subst (λ (q : Run). SameRow n f (q .rows)) (sym outcome-run) (d .agrees);
-          valid =
-              λ v h.
-              subst (λ (q : Run). AllHold n f (q .rows) v) (sym outcome-run)
-              (d .valid v h (heading bytes .t + 1) (le-refl _));
-          unlisted =
-              subst (λ (q : Run). NoSoundListed n f (q .lists)) (sym outcome-run)
-              (d .never-listed (heading bytes .t + 1) (le-refl _));
-        }
+    outcome-keeps few =
+        let d = replies-keep _ _ _ _ _ (setting few) in
+        let last = heading bytes .t + 1 in
+        subst (Demand3Of bytes) (sym outcome-run)
+        (record {
+          agrees = d .agrees;
+          valid = λ v h. d .valid v h last (le-refl _);
+          unlisted = d .never-listed last (le-refl _);
+        })
 
   -- how a listing ends
   pub ends-sent : outcomeOf bytes .refusal ≡ 0 →

@@ -5,9 +5,9 @@ use mathlib.Core.List.{List}
 use lib.ListN.{length}
 use Rattle.gradecast.specs.Lies.{SameLies}
 use Rattle.gradecast.specs.Fair.{NoSoundListed}
+use Rattle.run.specs.declared.Run.{Run}
 use Rattle.agreement.specs.Demand.{AllHold, SameRow}
 use Rattle.listing.specs.File.{heading, rowsOf, tableOf, due}
-use Rattle.listing.specs.Listing.{outcomeOf}
 
 -- the bytes of a file that matter: as many as the largest file has, and one that shows that a file goes on
 abbrev pub enough : ℕ
@@ -22,10 +22,10 @@ pub record SameButSound (a b : List ℕ) : Type 0 where
   pub same-lies : (m : ℕ) → m < due a →
       SameLies (heading a .n) (heading a .faulty) (tableOf (heading a .n) a m) (tableOf (heading a .n) b m)
 
--- demand 3 of a file: in the outcome's state all sound boxes hold the same row, a common start stays, and no sound
--- box is on a sound box's list
-pub record Demand3Of (bytes : List ℕ) : Type 0 where
-  pub agrees : SameRow (heading bytes .n) (heading bytes .faulty) (outcomeOf bytes .run .rows)
+-- demand 3 of a file: in the outcome's state s all sound boxes hold the same row, a common start stays, and no sound box
+-- is on a sound box's list
+pub record Demand3Of (bytes : List ℕ) (s : Run) : Type 0 where
+  pub agrees : SameRow (heading bytes .n) (heading bytes .faulty) (s .rows)
   pub valid : (v : ℕ) → AllHold (heading bytes .n) (heading bytes .faulty) (rowsOf bytes) v →
-      AllHold (heading bytes .n) (heading bytes .faulty) (outcomeOf bytes .run .rows) v
-  pub unlisted : NoSoundListed (heading bytes .n) (heading bytes .faulty) (outcomeOf bytes .run .lists)
+      AllHold (heading bytes .n) (heading bytes .faulty) (s .rows) v
+  pub unlisted : NoSoundListed (heading bytes .n) (heading bytes .faulty) (s .lists)

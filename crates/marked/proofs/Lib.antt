@@ -1,1 +1,2 @@
 pub mod Claim
+pub mod Worthless

@@ -49,9 +49,13 @@ abbrev pub tablesOfS : ℕ → List ℕ
 tablesOfS zero = liesOfS
 tablesOfS (suc m) = silent 4
 
--- case S after m iterations: n = 4, t = 1, box 4 faulty, rows 10, 20, 30
+-- rows 10, 20, 30, and nothing for the faulty box
+abbrev pub rowsOfS : List ℕ
+rowsOfS = 10 ∷ 20 ∷ 30 ∷ 0 ∷ []
+
+-- case S after m iterations: n = 4, t = 1, box 4 faulty
 abbrev pub caseS : ℕ → Next
-caseS = after (startReply 4 1 8 (10 ∷ 20 ∷ 30 ∷ 0 ∷ [])) tablesOfS
+caseS = after (startReply 4 1 8 rowsOfS) tablesOfS
 
 -- rows below 256 in bytes, eight for each
 abbrev pub inBytes : List ℕ → List ℕ
@@ -62,7 +66,7 @@ inBytes (row ∷ rows) = 0 ∷ 0 ∷ 0 ∷ 0 ∷ 0 ∷ 0 ∷ 0 ∷ row ∷ inByt
 abbrev pub fileOfS : List ℕ
 fileOfS =
     72 ∷ 78 ∷ 66 ∷ 0 ∷ 1 ∷ 4 ∷ 1 ∷ 0 ∷ 8 ∷
-    inBytes (10 ∷ 20 ∷ 30 ∷ 0 ∷ []) ++ (inBytes liesOfS ++ inBytes (silent 4))
+    inBytes rowsOfS ++ (inBytes liesOfS ++ inBytes (silent 4))
 
 -- the eight lines of case S, as the document prints them: run 4 1 8; at 1 1 10 8; at 1 2 20 8; at 1 3 10 8; at 2 1 10 8;
 -- at 2 2 10 8; at 2 3 10 8; sent 184
@@ -109,7 +113,7 @@ marked =
     Case.gives (shown (quiet 4 1 8 (50 ∷ 50 ∷ 50 ∷ 0 ∷ []) 1)) (0 ∷ 84 ∷ 50 ∷ 50 ∷ 50 ∷ 0 ∷ 8 ∷ 8 ∷ 8 ∷ 0 ∷ []) ∷
     Case.gives (shown (quiet 4 1 8 (50 ∷ 50 ∷ 50 ∷ 0 ∷ []) 2)) (0 ∷ 168 ∷ 50 ∷ 50 ∷ 50 ∷ 0 ∷ 8 ∷ 8 ∷ 8 ∷ 0 ∷ []) ∷
     -- the same with rows 10, 20, 30: all end with 10
-    Case.gives (shown (quiet 4 1 8 (10 ∷ 20 ∷ 30 ∷ 0 ∷ []) 2)) (0 ∷ 168 ∷ 10 ∷ 10 ∷ 10 ∷ 0 ∷ 8 ∷ 8 ∷ 8 ∷ 0 ∷ []) ∷
+    Case.gives (shown (quiet 4 1 8 rowsOfS 2)) (0 ∷ 168 ∷ 10 ∷ 10 ∷ 10 ∷ 0 ∷ 8 ∷ 8 ∷ 8 ∷ 0 ∷ []) ∷
     -- no faulty box, rows 7, 7, 9, 9: all end with 7, lists 0, 288 messages
     Case.gives (shown (quiet 4 1 0 (7 ∷ 7 ∷ 9 ∷ 9 ∷ []) 2)) (0 ∷ 288 ∷ 7 ∷ 7 ∷ 7 ∷ 7 ∷ 0 ∷ 0 ∷ 0 ∷ 0 ∷ []) ∷
     -- n = 1, t = 0, row 5: one iteration, row 5, 3 messages

@@ -29,12 +29,12 @@ pub data StartCall : ℕ → ℕ → ℕ → List ℕ → Next → Type 1 where
 pub data IterateCall : Run → List ℕ → Next → Type 1 where
   call : (κs : _) (a : _) (r : _) (x : _) → IterateReads.Post κs a r x → IterateCall (a .0) (a .1 .0 .now) r
 
-pub start-is : {n t faulty : ℕ} {rows : List ℕ} {r : Next} → StartCall n t faulty rows r →
+pub start-call-is : {n t faulty : ℕ} {rows : List ℕ} {r : Next} → StartCall n t faulty rows r →
     r ≡ startReply n t faulty rows
-start-is (StartCall.call κs a r x p) = p
+start-call-is (StartCall.call κs a r x p) = p
 
-pub iterate-is : {s : Run} {table : List ℕ} {r : Next} → IterateCall s table r → r ≡ iterateReply s table
-iterate-is (IterateCall.call κs a r x p) = p
+pub iterate-call-is : {s : Run} {table : List ℕ} {r : Next} → IterateCall s table r → r ≡ iterateReply s table
+iterate-call-is (IterateCall.call κs a r x p) = p
 
 -- a start, and then one iteration after another, each on the state before it and its own table
 pub record Calls (n t faulty : ℕ) (rows : List ℕ) (tables : ℕ → List ℕ) (reply : ℕ → Next) : Type 1 where
@@ -45,9 +45,9 @@ pub record Calls (n t faulty : ℕ) (rows : List ℕ) (tables : ℕ → List ℕ
 pub calls-are : {n t faulty : ℕ} {rows : List ℕ} {tables : ℕ → List ℕ} {reply : ℕ → Next} →
     Calls n t faulty rows tables reply → (m : ℕ) → reply m ≡ after (startReply n t faulty rows) tables m
 unfolding after
-calls-are c zero = start-is (c .started)
+calls-are c zero = start-call-is (c .started)
 calls-are {tables = tables} c (suc m) =
-    iterate-is (c .iterated m) ∙ ap (λ (r : Next). iterateReply (r .run) (tables m)) (calls-are c m)
+    iterate-call-is (c .iterated m) ∙ ap (λ (r : Next). iterateReply (r .run) (tables m)) (calls-are c m)
 
 -- the state of a start has n and the faulty set that it was given, or 0 boxes, of which nothing is read
 started-lies : (n t faulty : ℕ) (rows a b : List ℕ) → SameLies n faulty a b →
@@ -68,7 +68,7 @@ started-lies n t faulty rows a b same = go (eqb (startRefusal n t faulty rows) 0
 pub calls-start-blind : {n t faulty : ℕ} {a b : List ℕ} {p q : Next} → StartCall n t faulty a p →
     StartCall n t faulty b q → length a ≡ length b → ((k : ℕ) → SoundBox n faulty k → getD a k 0 ≡ getD b k 0) → p ≡ q
 calls-start-blind {n} {t} {faulty} {a} {b} p q whole same =
-    start-is p ∙ start-blind n t faulty a b whole same ∙ sym (start-is q)
+    start-call-is p ∙ start-blind n t faulty a b whole same ∙ sym (start-call-is q)
 
 -- runs whose tables differ in sound senders' places alone have the same replies
 pub calls-blind : {n t faulty : ℕ} {rows : List ℕ} {a b : ℕ → List ℕ} {p q : ℕ → Next} →
