@@ -1,9 +1,13 @@
--- The one claim over the marked cases: the definitions compute to what the document prints. The line that is marked for every
--- slice, that confidence 1 never arises when t is 0, is the law beside it.
+-- The one claim over the marked cases: the definitions compute to what the document prints; and for every slice of rows
+-- confidence 1 never arises when t is 0.
 -- Assumes nothing.
 use mathlib.Core.Path.{_≡_, refl}
+use mathlib.Core.Bool.{Bool, true, false, cond}
 use mathlib.Core.List.{List}
 use Prim.Native.Nat.{ℕ}
+use native.Mathlib.Omega.{arith}
+use lib.Dec.{eqb}
+use lib.ListN.{length}
 use Rattle.counting.specs.Count.{sum, count, any, build, find}
 use Rattle.counting.specs.Sets.{member, setOf}
 use Rattle.counting.specs.Most.{places, support, before, best, most}
@@ -24,10 +28,24 @@ use Rattle.listing.specs.Listing.{runLine, atLine, lastLine, boxLine, boxLines,
 use Rattle.run.specs.State.{zeros}
 use Rattle.marked.specs.Cases.{Hold, marked}
 
-pub marked-hold : Hold marked
-unfolding sum count any build find member setOf places support before best most firstOf outside tooMany stray sound soundZero tableRows carried voteOf twoRows supportOf confidenceAt confidenceOf gradedRow counted chosenRow voteRefusal sizeRefusal unless voteReply gradeReply place1 placeFrom place2 place3 sends hears heard1 heard2 column2 voted heard3 column3 confidence gradeRow sentTo messages entry gradedRows confidences newRow newList nextRun startRow startRefusal startRun startReply badEntry badPlace tooManySent iterateRefusal iterateReply after largestT number is-marked versionOf nOf tByte faultyOf tOf headingBytes rowFrom headingRow tableRow headingTests headingRefusal headingOf nothingRead headingReply tableTests tableRefusal tens decimal field fields lineOf orElse tableBytes tableBegins bytesOf tableOf refusedTable heading rowsOf replyAfter stateAfter refusedStart refusedAt due goesOn runLine atLine lastLine boxLine boxLines endedBy passed doneOf iterationLines refusedLater endsWith startLine firstLines outcomeOf listingOf zeros
-marked-hold =
-    (refl, (refl, (refl, (refl, (refl, (refl, (refl, (refl, (refl, (refl, (refl, (refl, (refl, (refl, (refl, (refl, (refl, (refl, (refl, tt)))))))))))))))))))
+-- a refused grade has confidence 0, and any other is that of the definition
+never-confidence-1 : (rows : List ℕ) → gradeReply rows 0 .confidence ≡ 1 → ⊥
+unfolding gradeReply unless
+never-confidence-1 rows = go (eqb (sizeRefusal (length rows) 0) 0)
+  where
+    go : (taken : Bool) → cond taken (confidenceOf 0 rows) 0 ≡ 1 → ⊥
+    go true e = never-1 rows e
+    go false e = absurd (omega (arith, e))
 
-pub confidence-1-needs-t : (xs : List ℕ) → confidenceOf 0 xs ≡ 1 → ⊥
-confidence-1-needs-t xs = never-1 xs
+pub marked-hold : Hold marked
+unfolding sum count any build find member setOf places support before best most firstOf outside tooMany stray sound
+    soundZero tableRows carried voteOf twoRows supportOf confidenceAt confidenceOf gradedRow counted chosenRow
+    voteRefusal sizeRefusal unless voteReply gradeReply place1 placeFrom place2 place3 sends hears heard1 heard2
+    column2 voted heard3 column3 confidence gradeRow sentTo messages entry gradedRows confidences newRow newList
+    nextRun startRow startRefusal startRun startReply badEntry badPlace tooManySent iterateRefusal iterateReply
+    after largestT number is-marked versionOf nOf tByte faultyOf tOf headingBytes rowFrom headingRow tableRow
+    headingTests headingRefusal headingOf nothingRead headingReply tableTests tableRefusal tens decimal field fields
+    lineOf orElse tableBytes tableBegins bytesOf tableOf refusedTable heading rowsOf replyAfter stateAfter
+    refusedStart refusedAt due goesOn runLine atLine lastLine boxLine boxLines endedBy passed doneOf iterationLines
+    refusedLater endsWith startLine firstLines outcomeOf listingOf zeros
+marked-hold = (refl, refl, refl, refl, refl, refl, refl, refl, refl, refl, refl, refl, refl, refl, refl, refl, refl, never-confidence-1, refl, refl, tt)

@@ -12,14 +12,17 @@ use Rattle.run.specs.declared.Next.{Next}
 use Rattle.run.specs.State.{startReply, after}
 use Rattle.listing.specs.Listing.{listingOf}
 
--- a case: the numbers that the definitions give, and the numbers of the document
+-- a case: the numbers that the definitions give, and the numbers of the document; or what they give for any slice of
+-- rows, and a number that never arises
 pub data Case : Type 0 where
   gives : List ℕ → List ℕ → Case
+  never : (List ℕ → ℕ) → ℕ → Case
 
 -- every case of the list gives what the document prints
 abbrev pub Hold : List Case → Type 0
 Hold [] = Unit
 Hold (Case.gives got printed ∷ rest) = (got ≡ printed) × Hold rest
+Hold (Case.never got number ∷ rest) = ((rows : List ℕ) → got rows ≡ number → ⊥) × Hold rest
 
 -- a reply in numbers: the refusal, the messages sent so far, then the rows and the lists of boxes 1 to n
 abbrev pub shown : Next → List ℕ
@@ -125,8 +128,9 @@ marked =
     Case.gives (gradeBy 2 5 2) (6 ∷ 2 ∷ []) ∷
     -- grade, n = 5, t = 1: support 3 gives 2, though n − t is 4
     Case.gives (gradeBy 1 3 2) (6 ∷ 2 ∷ []) ∷
-    -- grade, n = 3, t = 0: support 1 gives 2
+    -- grade, n = 3, t = 0: support 1 gives 2; confidence 1 never arises when t is 0
     Case.gives (gradeBy 0 1 2) (6 ∷ 2 ∷ []) ∷
+    Case.never (λ rows. gradeReply rows 0 .confidence) 1 ∷
     -- vote, n = 4, t = 1: rows 6, 6, 0, 6 give 6; rows 6, 6, 0, 0 give 0
     Case.gives (voteBy 1 (6 ∷ 6 ∷ 0 ∷ 6 ∷ [])) (0 ∷ 6 ∷ []) ∷
     Case.gives (voteBy 1 (6 ∷ 6 ∷ 0 ∷ 0 ∷ [])) (0 ∷ 0 ∷ []) ∷
