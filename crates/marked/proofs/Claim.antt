@@ -28,6 +28,11 @@ use Rattle.listing.specs.Listing.{runLine, atLine, lastLine, boxLine, boxLines,
 use Rattle.run.specs.State.{zeros}
 use Rattle.marked.specs.Cases.{Hold, marked}
 
+infixr 4 _⨾_
+-- a case that holds, and those behind it
+_⨾_ : {A B : Type 0} → A → B → A × B
+a ⨾ b = (a, b)
+
 -- a refused grade has confidence 0, and any other is that of the definition
 never-confidence-1 : (rows : List ℕ) → gradeReply rows 0 .confidence ≡ 1 → ⊥
 unfolding gradeReply unless
@@ -48,4 +53,6 @@ unfolding sum count any build find member setOf places support before best most 
     lineOf orElse tableBytes tableBegins bytesOf tableOf refusedTable heading rowsOf replyAfter stateAfter
     refusedStart refusedAt due goesOn runLine atLine lastLine boxLine boxLines endedBy passed doneOf iterationLines
     refusedLater endsWith startLine firstLines outcomeOf listingOf zeros
-marked-hold = (refl, refl, refl, refl, refl, refl, refl, refl, refl, refl, refl, refl, refl, refl, refl, refl, refl, never-confidence-1, refl, refl, tt)
+marked-hold =
+    refl ⨾ refl ⨾ refl ⨾ refl ⨾ refl ⨾ refl ⨾ refl ⨾ refl ⨾ refl ⨾ refl ⨾ refl ⨾ refl ⨾ refl ⨾ refl ⨾ refl ⨾ refl ⨾ refl ⨾
+    never-confidence-1 ⨾ refl ⨾ refl ⨾ tt
