@@ -18,7 +18,7 @@ use Rattle.run.proofs.Accepted.{start-accepted-is}
 use Rattle.runfile.specs.declared.Heading.{Heading}
 use Rattle.runfile.specs.File.{nOf, headingBytes, headingRow}
 use Rattle.runfile.specs.Reply.{headingRefusal, headingOf, headingWrites}
-use Rattle.runfile.proofs.Laws.{Accepted, heading-accepted, heading-given, heading-written, heading-number, heading-tolerates, heading-startable}
+use Rattle.runfile.proofs.Laws.{Readable, heading-readable, heading-given, heading-written, heading-number, heading-tolerates, heading-startable}
 use Rattle.listing.specs.File.{orElse, heading, rowsOf, replyAfter, stateAfter, refusedStart}
 
 -- the first of two refusals
@@ -47,8 +47,8 @@ module _ (bytes : List ℕ) (ok : heading bytes .refusal ≡ 0) where
   unfolding heading
   passed = sym (heading-number bytes 13) ∙ ok
 
-  taken : Accepted bytes (length thirteen)
-  taken = heading-accepted bytes (length thirteen) passed
+  taken : Readable bytes (length thirteen)
+  taken = heading-readable bytes (length thirteen) passed
 
   says : heading bytes ≡ headingOf bytes
   unfolding heading

@@ -92,9 +92,9 @@ module _ (s : Run) (bytes : List ℕ) (u : Underway s bytes) where
         (subst (λ (p : List ℕ). TakenTo (s .n) (s .faulty) p table (s .n)) same-part t))
         same-length
 
-    pub carried-on : (r : Next) → r ≡ iterateReply s (take rows table) → Advanced s bytes r
+    pub moved-on : (r : Next) → r ≡ iterateReply s (take rows table) → Advanced s bytes r
     unfolding refusedTable
-    carried-on r e =
+    moved-on r e =
         let is : r ≡ iterateReply s (tableOf (s .n) bytes (s .done)) =
         e ∙ ap (λ (k : ℕ). iterateReply s (take k table)) er ∙ sym blind in
         record {

@@ -20,13 +20,13 @@ use Rattle.run.specs.State.{startRefusal, badPlace, tooManySent, iterate
 use Rattle.run.specs.Legal.{Legal}
 
 -- a call that is not refused: the state is legal, the table has its length, and not all iterations are done
-pub record Accepted (s : Run) (table : List ℕ) : Type 0 where
+pub record Iterable (s : Run) (table : List ℕ) : Type 0 where
   pub legal : Legal s
   pub rows-of-table : length table ≡ tableRows (s .n)
   pub done-few : s .done ≤ s .t
 
 module _ (s : Run) (table : List ℕ) where
-  pub is-accepted : iterateRefusal s table ≡ 0 → Accepted s table
+  pub is-accepted : iterateRefusal s table ≡ 0 → Iterable s table
   unfolding iterateRefusal
   is-accepted h0 =
       let h4 = accepted 3 (outside (s .n)) _ h0 in
@@ -51,7 +51,7 @@ module _ (s : Run) (table : List ℕ) where
         done-few = ltb-false (s .t) (s .done) (h12 .0);
       }
 
-  pub accepted-is : Accepted s table → iterateRefusal s table ≡ 0
+  pub accepted-is : Iterable s table → iterateRefusal s table ≡ 0
   unfolding iterateRefusal firstOf
   accepted-is a =
       let l = a .legal in

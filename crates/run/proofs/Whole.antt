@@ -22,14 +22,14 @@ use Rattle.gradecast.proofs.Cells.{length-cells}
 use Rattle.gradecast.proofs.Messages.{messages-bound}
 use Rattle.gradecast.proofs.Replies.{cast-taken, ready-passes}
 use Rattle.run.specs.declared.Run.{Run}
-use Rattle.run.specs.Grades.{GradesOf, Sized, listFrom}
+use Rattle.run.specs.Grades.{GradesOf, AllCells, listFrom}
 use Rattle.run.specs.Iteration.{entry, newRow, newList, nextRun}
 use Rattle.run.specs.State.{tooManySent}
-use Rattle.run.proofs.Accepted.{Accepted}
+use Rattle.run.proofs.Accepted.{Iterable}
 use Rattle.run.proofs.Entries.{is-box, is-sound}
 use Rattle.run.proofs.Parts.{list-of}
 
-module _ (s : Run) (table : List ℕ) (a : Accepted s table) where
+module _ (s : Run) (table : List ℕ) (a : Iterable s table) where
   pub low : 1 ≤ s .n
   low = inside-low (s .n) (a .legal .pass4)
 
@@ -75,8 +75,8 @@ module _ (s : Run) (table : List ℕ) (a : Accepted s table) where
     unfolding castOf
     grades = record { found-rows = ap (λ (c : Cast). c .rows) found; found-confidences = ap (λ (c : Cast). c .confidences) found }
 
-    pub cast-sized : Sized s (r .rows) (r .confidences)
-    cast-sized =
+    pub cast-cells : AllCells s (r .rows) (r .confidences)
+    cast-cells =
         record {
           low = low;
           high = high;

@@ -18,7 +18,7 @@ pub record GradesOf (s : Run) (table rows confidences : List ℕ) : Type 0 where
       confidences ≡ cells (s .n) (ofSound (s .faulty) (confidence (s .n) (s .t) (s .faulty) (s .rows) (s .lists) table))
 
 -- the sizes that step 5 counts on
-pub record Sized (s : Run) (rows confidences : List ℕ) : Type 0 where
+pub record AllCells (s : Run) (rows confidences : List ℕ) : Type 0 where
   pub low : 1 ≤ s .n
   pub high : s .n ≤ 13
   pub all-rows : length rows ≡ 169

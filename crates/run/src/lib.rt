@@ -9,7 +9,7 @@ ghost use Rattle.counting.specs.Count.{any, build};
 ghost use Rattle.counting.specs.Sets.{member};
 ghost use Rattle.sizes.specs.Sizes.{sound, soundZero};
 ghost use Rattle.run.specs.Iteration.{newRow, entry};
-ghost use Rattle.run.specs.Grades.{GradesOf, Sized, Working, listFrom};
+ghost use Rattle.run.specs.Grades.{GradesOf, AllCells, Working, listFrom};
 ghost use Rattle.run.specs.State.{
   settingRefusal,
   startRow,
@@ -233,7 +233,7 @@ fn iterate_refusal(s: Run, table: &[u64]) -> u8
 
 // Step 5, the new row of a sound box i: the row held by the most leaders with confidence 1 or 2, else the old row.
 fn new_row(s: Run, rows: &[u64], confidences: &[u8], i: usize) -> u64
-    requires { ⌜ Sized s (now rows) (now confidences) × Working s i ⌝ }
+    requires { ⌜ AllCells s (now rows) (now confidences) × Working s i ⌝ }
     ensures { λ r. ⌜ ((table : List ℕ) → GradesOf s table (now (rows .entry)) (now (confidences .entry)) → r ≡ newRow s table i) ⌝ }
 {
     let n = s.n as usize;
@@ -284,7 +284,7 @@ fn new_list(s: Run, confidences: &[u8], i: usize) -> u16
 
 // The row of place i after the iteration: the new row of a sound box, and 0 in a faulty or unused place.
 fn row_at(s: Run, rows: &[u64], confidences: &[u8], i: usize) -> u64
-    requires { ⌜ Sized s (now rows) (now confidences) × (i < 13) ⌝ }
+    requires { ⌜ AllCells s (now rows) (now confidences) × (i < 13) ⌝ }
     ensures { λ r. ⌜ ((table : List ℕ) → GradesOf s table (now (rows .entry)) (now (confidences .entry)) → r ≡ entry (s .n) (s .faulty) (newRow s table) i) ⌝ }
 {
     if is_sound_box(s.n, s.faulty, i) {
@@ -306,7 +306,7 @@ fn list_at(s: Run, confidences: &[u8], i: usize) -> u16
 
 // Step 5: the thirteen rows after the iteration.
 fn step5_rows<'a>(s: Run, rows: &'a [u64], confidences: &'a [u8]) -> [u64; 13]
-    requires { ⌜ Sized s (now rows) (now confidences) ⌝ }
+    requires { ⌜ AllCells s (now rows) (now confidences) ⌝ }
     ensures { λ r. ⌜ ((table : List ℕ) → GradesOf s table (now (rows .entry)) (now (confidences .entry)) → r ≡ build 13 (entry (s .n) (s .faulty) (newRow s table))) ⌝ }
 {
     let mut out = [0u64; 13];

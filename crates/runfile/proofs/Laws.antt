@@ -23,7 +23,7 @@ use Rattle.runfile.specs.Reply.{headingTests, headingRefusal, headingOf,
 use Rattle.counting.proofs.Build.{front-length}
 
 -- the tests that a heading passed
-pub record Accepted (bytes : List ℕ) (room : ℕ) : Type 0 where
+pub record Readable (bytes : List ℕ) (room : ℕ) : Type 0 where
   pub long : 9 ≤ length bytes
   pub mark : marked bytes ≡ true
   pub version : versionOf bytes ≡ 1
@@ -34,9 +34,9 @@ pub record Accepted (bytes : List ℕ) (room : ℕ) : Type 0 where
   pub nonzero : soundZero (nOf bytes) (faultyOf bytes) (build (nOf bytes) (headingRow bytes)) ≡ false
   pub enough : nOf bytes ≤ room
 
-pub heading-accepted : (bytes : List ℕ) (room : ℕ) → headingRefusal bytes room ≡ 0 → Accepted bytes room
+pub heading-readable : (bytes : List ℕ) (room : ℕ) → headingRefusal bytes room ≡ 0 → Readable bytes room
 unfolding headingRefusal headingTests
-heading-accepted bytes room h =
+heading-readable bytes room h =
     let a1 = accepted 0 _ _ h in
     let a2 = accepted 1 _ _ (a1 .1) in
     let a3 = accepted 2 _ _ (a2 .1) in
@@ -119,7 +119,7 @@ heading-length bytes slice = go (ℕ-discrete (headingRefusal bytes (length slic
     go : Dec (headingRefusal bytes (length slice) ≡ 0) → length (headingWrites bytes slice) ≡ length slice
     go (yes e) =
         ap length (heading-written bytes slice e)
-        ∙ front-length (nOf bytes) (headingRow bytes) slice (heading-accepted bytes (length slice) e .enough)
+        ∙ front-length (nOf bytes) (headingRow bytes) slice (heading-readable bytes (length slice) e .enough)
     go (no d) = ap length (heading-leaves bytes slice d)
 
 pub table-length : (n : ℕ) (bytes slice : List ℕ) → length (tableWrites n bytes slice) ≡ length slice
@@ -136,8 +136,8 @@ pub heading-tolerates : (bytes : List ℕ) (room : ℕ) → headingRefusal bytes
 unfolding tOf
 heading-tolerates bytes room e = go (eqb (tByte bytes) 255) refl
   where
-    a : Accepted bytes room
-    a = heading-accepted bytes room e
+    a : Readable bytes room
+    a = heading-readable bytes room e
 
     go : (b : Bool) → eqb (tByte bytes) 255 ≡ b → 3 * cond b (largestT (nOf bytes)) (tByte bytes) < nOf bytes
     go true h = largest-tolerated (nOf bytes) (inside-low (nOf bytes) (a .inside))
@@ -148,7 +148,7 @@ pub heading-startable : (bytes slice : List ℕ) → headingRefusal bytes (lengt
     Startable (nOf bytes) (tOf (nOf bytes) (tByte bytes)) (faultyOf bytes) (take (nOf bytes) (headingWrites bytes slice))
 unfolding front
 heading-startable bytes slice e =
-    let a = heading-accepted bytes (length slice) e in
+    let a = heading-readable bytes (length slice) e in
     let rows : take (nOf bytes) (headingWrites bytes slice) ≡ build (nOf bytes) (headingRow bytes) =
     ap (take (nOf bytes)) (heading-written bytes slice e)
     ∙ take-at (build (nOf bytes) (headingRow bytes)) (drop (nOf bytes) slice) (nOf bytes) (length-build (nOf bytes) (headingRow bytes)) in

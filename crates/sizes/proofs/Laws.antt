@@ -123,10 +123,6 @@ pub by-n-inside : (formula : ℕ → ℕ) (n : ℕ) → outside n ≡ false → 
 unfolding byN
 by-n-inside formula n h = cond-false 0 (formula n) h
 
--- a reply that one equation states is unique: so are those of every public function of this crate
-pub one-reply : {A : Type 0} {reply r s : A} → r ≡ reply → s ≡ reply → r ≡ s
-one-reply p q = p ∙ sym q
-
 -- does a table of 13 numbers differ from the formula at place k?
 abbrev pub wrong : List ℕ → (ℕ → ℕ) → ℕ → Bool
 wrong table formula k = not (eqb (getD table k 0) (formula (k + 1)))

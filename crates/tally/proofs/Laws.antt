@@ -25,60 +25,60 @@ use Rattle.tally.specs.Tally.{carried, voteOf, supportOf, confidenceAt, 
 use Rattle.tally.proofs.Carried.{carried-enough}
 
 -- v is a non-zero row that stands at least n − t times
-pub record Carried (t : ℕ) (xs : List ℕ) (v : ℕ) : Type 0 where
+pub record StandsEnough (t : ℕ) (xs : List ℕ) (v : ℕ) : Type 0 where
   pub not-zero : v ≡ 0 → ⊥
   pub enough : length xs - t ≤ places xs v
 
 module _ (t : ℕ) (xs : List ℕ) where
-  pub carried-is : (v : ℕ) → carried t xs v ≡ true → Carried t xs v
+  pub carried-stands : (v : ℕ) → carried t xs v ≡ true → StandsEnough t xs v
   unfolding carried
-  carried-is v h =
+  carried-stands v h =
       record {
         not-zero = eqb-false v 0 (not-true (eqb v 0) (and-left (not (eqb v 0)) (leb (length xs - t) (places xs v)) h));
         enough =
             leb-true (length xs - t) (places xs v) (and-right (not (eqb v 0)) (leb (length xs - t) (places xs v)) h);
       }
 
-  pub is-carried : (v : ℕ) → Carried t xs v → carried t xs v ≡ true
-  is-carried v c = carried-enough t xs v (c .not-zero) (c .enough)
+  pub stands-carried : (v : ℕ) → StandsEnough t xs v → carried t xs v ≡ true
+  stands-carried v c = carried-enough t xs v (c .not-zero) (c .enough)
 
   -- no two rows are carried
-  pub carried-one : 3 * t < length xs → (v w : ℕ) → Carried t xs v → Carried t xs w → v ≡ w
+  pub carried-one : 3 * t < length xs → (v w : ℕ) → StandsEnough t xs v → StandsEnough t xs w → v ≡ w
   carried-one h v w c d = places-one xs v w (omega (arith, c .enough, d .enough))
 
   -- the vote is a carried row that stands in the column, or 0 where no row of the column is carried
-  vote-cases : (Carried t xs (voteOf t xs)) ⊎ ((voteOf t xs ≡ 0) × ((k : ℕ) → k < length xs → carried t xs (getD xs k 0) ≡ false))
+  vote-cases : (StandsEnough t xs (voteOf t xs)) ⊎ ((voteOf t xs ≡ 0) × ((k : ℕ) → k < length xs → carried t xs (getD xs k 0) ≡ false))
   unfolding voteOf
   vote-cases =
       ⊎-elim
-      (λ f. inl (carried-is (find (length xs) (carried t xs) (λ k. getD xs k 0)) (f .passes)))
+      (λ f. inl (carried-stands (find (length xs) (carried t xs) (λ k. getD xs k 0)) (f .passes)))
       (λ n. inr n)
       (find-cases (length xs) (carried t xs) (λ k. getD xs k 0))
 
   -- a vote that is not 0 is carried
-  pub vote-carried : (voteOf t xs ≡ 0 → ⊥) → Carried t xs (voteOf t xs)
+  pub vote-carried : (voteOf t xs ≡ 0 → ⊥) → StandsEnough t xs (voteOf t xs)
   vote-carried z = ⊎-elim (λ c. c) (λ n. absurd (z (n .0))) vote-cases
 
   -- where no row is carried the vote is 0
-  pub vote-none : ((v : ℕ) → Carried t xs v → ⊥) → voteOf t xs ≡ 0
+  pub vote-none : ((v : ℕ) → StandsEnough t xs v → ⊥) → voteOf t xs ≡ 0
   vote-none h = ⊎-elim (λ c. absurd (h (voteOf t xs) c)) (λ n. n .0) vote-cases
 
   -- where none of the first t + 1 rows is carried the vote is 0: a carried row is missing from at most t places
   pub vote-nowhere : 3 * t < length xs → any (t + 1) (λ k. carried t xs (getD xs k 0)) ≡ false → voteOf t xs ≡ 0
   vote-nowhere h none = ⊎-elim (λ c. first c) (λ n. n .0) vote-cases
     where
-      first : Carried t xs (voteOf t xs) → voteOf t xs ≡ 0
+      first : StandsEnough t xs (voteOf t xs) → voteOf t xs ≡ 0
       first c =
           let same = support-places xs (voteOf t xs) (c .not-zero) in
           let s = support-first xs (t + 1) (voteOf t xs) (omega arith) (omega (arith, same, c .enough)) in
-          never (ap (carried t xs) (s .here) ∙ is-carried (voteOf t xs) c) (any-none (t + 1) _ none (s .at) (s .below))
+          never (ap (carried t xs) (s .here) ∙ stands-carried (voteOf t xs) c) (any-none (t + 1) _ none (s .at) (s .below))
 
   -- a carried row is the vote
-  pub vote-is : 3 * t < length xs → (v : ℕ) → Carried t xs v → voteOf t xs ≡ v
+  pub vote-is : 3 * t < length xs → (v : ℕ) → StandsEnough t xs v → voteOf t xs ≡ v
   vote-is h v c =
       ⊎-elim
       (λ d. carried-one h (voteOf t xs) v d c)
-      (λ n. never (subst (λ (w : ℕ). carried t xs w ≡ true) (sym (stands .here)) (is-carried v c)) (n .1 (stands .at) (stands .below)))
+      (λ n. never (subst (λ (w : ℕ). carried t xs w ≡ true) (sym (stands .here)) (stands-carried v c)) (n .1 (stands .at) (stands .below)))
       vote-cases
     where
       stands : Stands xs v

@@ -12,7 +12,7 @@ use Rattle.counting.proofs.Bools.{cond-false}
 use Rattle.counting.proofs.Most.{best-turn, best-early, support-zero, support-places}
 use Rattle.counting.proofs.Places.{most-majority}
 use Rattle.tally.specs.declared.Lead.{Lead}
-use Rattle.tally.specs.Reply.{leadOf}
+use Rattle.tally.specs.Inside.{leadOf}
 
 module _ (xs : List ℕ) (lead : Lead) (v : ℕ) where
   -- the lead's own number is the support of its row

@@ -19,7 +19,8 @@ use Rattle.tally.specs.declared.Graded.{Graded}
 use Rattle.tally.specs.declared.Chosen.{Chosen}
 use Rattle.tally.specs.declared.Lead.{Lead}
 use Rattle.tally.specs.Tally.{confidenceAt, supportOf, counted, firmFor, twoRows, voteOf, gradedRow, confidenceOf, chosenRow, firmLeaders}
-use Rattle.tally.specs.Reply.{leadOf, voteRefusal, choiceRefusal, unless, voteReply, gradeReply, choiceReply}
+use Rattle.tally.specs.Reply.{voteRefusal, choiceRefusal, unless, voteReply, gradeReply, choiceReply}
+use Rattle.tally.specs.Inside.{leadOf}
 
 module _ (xs : List ℕ) (t : ℕ) where
   -- a vote that passes 4 and 5 is refused by 7 alone

@@ -17,7 +17,7 @@ use Rattle.tally.specs.declared.Graded.{Graded}
 use Rattle.tally.specs.declared.Chosen.{Chosen}
 use Rattle.tally.specs.Tally.{carried, voteOf, twoRows, confidenceOf, gradedRow, chosenRow, above2}
 use Rattle.tally.specs.Reply.{choiceRefusal, voteReply, gradeReply, choiceReply}
-use Rattle.tally.proofs.Laws.{carried-is, carried-one}
+use Rattle.tally.proofs.Laws.{carried-stands, carried-one}
 use Rattle.tally.proofs.Replies.{vote-passes, vote-taken, grade-taken, choice-taken}
 
 -- no two different rows stand n − t times each
@@ -35,7 +35,7 @@ never-two t xs h = none-any (length xs) _ (λ i bi. none-any (length xs) _ (λ j
     apart i j true e true f =
         not-of-true
         (eq-eqb (getD xs i 0) (getD xs j 0)
-        (carried-one t xs h (getD xs i 0) (getD xs j 0) (carried-is t xs (getD xs i 0) e) (carried-is t xs (getD xs j 0) f)))
+        (carried-one t xs h (getD xs i 0) (getD xs j 0) (carried-stands t xs (getD xs i 0) e) (carried-stands t xs (getD xs j 0) f)))
 
 module _ (xs : List ℕ) (t : ℕ) (s : Sized (length xs) t) where
   pub vote-row : voteReply xs t .row ≡ voteOf t xs

@@ -5,14 +5,12 @@ use mathlib.Core.Bool.{cond, not}
 use mathlib.Core.List.{List, [], _∷_}
 use lib.Dec.{eqb}
 use lib.ListN.{length}
-use Rattle.counting.specs.Most.{support}
 use Rattle.counting.specs.Refuse.{firstOf}
 use Rattle.counting.specs.Refuse.Refusal.{refuse}
 use Rattle.sizes.specs.Sizes.{outside, tooMany, sizeRefusal}
 use Rattle.tally.specs.declared.Voted.{Voted}
 use Rattle.tally.specs.declared.Graded.{Graded}
 use Rattle.tally.specs.declared.Chosen.{Chosen}
-use Rattle.tally.specs.declared.Lead.{Lead}
 use Rattle.tally.specs.Tally.{twoRows, voteOf, gradedRow, confidenceOf, chosenRow, firmLeaders, above2}
 
 -- the refusals of a vote: 4, 5, 7
@@ -29,10 +27,6 @@ choiceRefusal rows confidences =
     refuse 11 (not (eqb (length rows) (length confidences))) ∷
     refuse 13 (above2 confidences) ∷
     [])
-
--- a row with its support in xs
-unfoldable pub leadOf : List ℕ → ℕ → Lead
-leadOf xs row = record { row = row; support = support xs row }
 
 -- the answer, or 0 where the call is refused
 unfoldable pub unless : ℕ → ℕ → ℕ

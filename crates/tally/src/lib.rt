@@ -6,7 +6,8 @@ ghost use lib.ListN.{length, take};
 ghost use lib.Dec.{eqb, ltb};
 ghost use Rattle.counting.specs.Most.{places, support, before, most};
 ghost use Rattle.tally.specs.Tally.{carried, voteOf, confidenceAt, counted, firmFor, above2};
-ghost use Rattle.tally.specs.Reply.{voteReply, leadOf, gradeReply, choiceRefusal, choiceReply};
+ghost use Rattle.tally.specs.Reply.{voteReply, gradeReply, choiceRefusal, choiceReply};
+ghost use Rattle.tally.specs.Inside.{leadOf};
 
 // The reply of a vote: the row that stands at least n − t times, or 0.
 pub struct Voted {
@@ -29,9 +30,9 @@ pub struct Chosen {
 }
 
 // The row that leads so far, and its support.
-pub struct Lead {
-    pub row: u64,
-    pub support: usize,
+struct Lead {
+    row: u64,
+    support: usize,
 }
 
 // 1 where the two rows are the same, else 0.

@@ -10,7 +10,7 @@ use borrow.Rule.Slice.PartMut.{mid-len}
 use Rattle.sizes.specs.Sizes.{tableRows}
 use Rattle.sizes.proofs.Laws.{inside, by-n-inside, table-le}
 use Rattle.listing.specs.File.{tableBytes}
-use Rattle.listing.proofs.Table.{cut-short, carried-on}
+use Rattle.listing.proofs.Table.{cut-short, moved-on}
 use borrow.Author.Needs.{needs}
 use Rattle.listing.proofs.advance.Statement.{statement}
 use Rattle.listing.proofs.advance.Tie as tie
@@ -102,7 +102,7 @@ returns-2 c =
     let f = c .before .before .before .before in
     let b = begins-of f in
     let whole = f .before .before .before .before .if1 .left in
-    carried-on _ _ (start-of b .pre .0) _ _ _ _ (rows-of (b .before)) (b .begins .ensures .0) whole refl
+    moved-on _ _ (start-of b .pre .0) _ _ _ _ (rows-of (b .before)) (b .begins .ensures .0) whole refl
     (f .take-faulty .ensures) (table-long f) _ (c .iterate .ensures)
 
 pub advance-spec : {M : Type 1} → statement M

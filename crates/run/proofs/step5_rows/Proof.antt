@@ -2,6 +2,7 @@
 use mathlib.Core.Path.{refl}
 use mathlib.Core.List.{List}
 use Prim.Native.Nat.{ℕ, _-_}
+use native.Mathlib.Nat.{le-refl}
 use native.Mathlib.Omega.{arith}
 use lib.ListN.{replicate}
 use Rattle.counting.proofs.Loops.{Filled, fill-begins, fill-turn, fill-ends}
@@ -41,7 +42,7 @@ loop-again : tie.Need-loop-again Inv-loop μ-loop
 loop-again c =
     λ table g.
     let filled = c .before .before .loop .inv table g in
-    fill-turn _ (replicate 13 0) refl filled (c .before .loop-test .taken) (c .row-at .ensures table g)
+    fill-turn _ (replicate 13 0) (le-refl _) filled (c .before .loop-test .taken) (c .row-at .ensures table g)
 
 returns : tie.Need-returns Inv-loop μ-loop
 returns c = λ table g. fill-ends _ (replicate 13 0) refl (c .before .loop .inv table g) (omega arith)

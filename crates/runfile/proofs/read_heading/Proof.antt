@@ -9,7 +9,7 @@ use Rattle.runfile.specs.declared.Heading.{Heading}
 use Rattle.runfile.specs.File.{nOf, headingBytes, headingRow}
 use Rattle.counting.specs.Count.{front}
 use Rattle.runfile.specs.Reply.{headingRefusal, nothingRead, headingOf}
-use Rattle.runfile.proofs.Laws.{Accepted, heading-accepted, heading-refused, heading-leaves, heading-given, heading-written}
+use Rattle.runfile.proofs.Laws.{Readable, heading-readable, heading-refused, heading-leaves, heading-given, heading-written}
 use borrow.Author.Needs.{needs}
 use Rattle.runfile.proofs.read_heading.Statement.{statement}
 use Rattle.runfile.proofs.read_heading.Tie as tie
@@ -21,8 +21,8 @@ none : (c : tie.Else1) → headingRefusal (start-of c .args .bytes .now) (length
 none c = sym (c .before .heading-refusal .ensures) ∙ c .if1 .left
 
 -- what the heading passed
-read : (c : tie.Else1) → Accepted (start-of c .args .bytes .now) (length (start-of c .args .rows .now))
-read c = heading-accepted _ _ (none c)
+read : (c : tie.Else1) → Readable (start-of c .args .bytes .now) (length (start-of c .args .rows .now))
+read c = heading-readable _ _ (none c)
 
 n-of : (c : tie.After-heading-of) → c .heading-of .result .n ≡ nOf (c .before .before .before .before .before .args .bytes .now)
 unfolding headingOf

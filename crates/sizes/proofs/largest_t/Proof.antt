@@ -1,6 +1,6 @@
 -- `sizes::largest_t` meets its contract: inside 1 to 13 it reads the table, whose rule one computed test gives; outside both
 -- sides are 0. Assumes nothing.
-use mathlib.Core.Path.{_≡_, refl}
+use mathlib.Core.Path.{_≡_, refl, sym, _∙_}
 use mathlib.Core.Bool.{false}
 use mathlib.Core.List.{List, [], _∷_}
 use Prim.Native.Nat.{ℕ}
@@ -10,6 +10,7 @@ use Rattle.sizes.specs.Sizes.{largestT}
 use Rattle.sizes.proofs.Laws.{by-n-low, by-n-high, table-rule, wrong}
 use Rattle.sizes.proofs.largest_t.Statement.{statement}
 use Rattle.sizes.proofs.largest_t.Tie as tie
+use Rattle.sizes.proofs.largest_t.Reads as Reads
 
 numbers : List ℕ
 numbers = 0 ∷ 0 ∷ 0 ∷ 1 ∷ 1 ∷ 1 ∷ 2 ∷ 2 ∷ 2 ∷ 3 ∷ 3 ∷ 3 ∷ 4 ∷ []
@@ -36,3 +37,7 @@ returns-3 c = by-n-high largestT (c .before .before .args .n) (search needs)
 
 pub largest-t-spec : {M : Type 1} → statement M
 largest-t-spec = tie.close (tie.spec cast-result array-read-result returns returns-2 returns-3)
+
+-- the contract admits one reply
+pub only-one : (κs : _) (a : _) (r s : _) (x y : _) → Reads.Post κs a r x → Reads.Post κs a s y → r ≡ s
+only-one κs a r s x y p q = p ∙ sym q

@@ -1,5 +1,5 @@
 -- `sizes::size_refusal` meets its contract: it makes the tests of refusals 4 and 5 in their order. Assumes nothing.
-use mathlib.Core.Path.{sym, _∙_}
+use mathlib.Core.Path.{_≡_, sym, _∙_}
 use borrow.Author.Needs.{needs}
 use Rattle.counting.specs.Refuse.{firstOf}
 use Rattle.counting.proofs.Refuse.{refused, passed}
@@ -7,6 +7,7 @@ use Rattle.sizes.proofs.Laws.{inside, outside-low, outside-high, tolera
 use Rattle.sizes.specs.Sizes.{sizeRefusal}
 use Rattle.sizes.proofs.size_refusal.Statement.{statement}
 use Rattle.sizes.proofs.size_refusal.Tie as tie
+use Rattle.sizes.proofs.size_refusal.Reads as Reads
 
 returns : tie.Need-returns
 unfolding sizeRefusal
@@ -36,3 +37,7 @@ returns-4 c =
 
 pub size-refusal-spec : {M : Type 1} → statement M
 size-refusal-spec = tie.close (tie.spec returns returns-2 mul-if3 returns-3 returns-4)
+
+-- the contract admits one reply
+pub only-one : (κs : _) (a : _) (r s : _) (x y : _) → Reads.Post κs a r x → Reads.Post κs a s y → r ≡ s
+only-one κs a r s x y p q = p ∙ sym q

@@ -1,6 +1,6 @@
 -- `sizes::table_rows` meets its contract: inside 1 to 13 it reads the table, whose rule one computed test gives; outside both
 -- sides are 0. Assumes nothing.
-use mathlib.Core.Path.{_≡_, refl}
+use mathlib.Core.Path.{_≡_, refl, sym, _∙_}
 use mathlib.Core.Bool.{false}
 use mathlib.Core.List.{List, [], _∷_}
 use Prim.Native.Nat.{ℕ}
@@ -10,6 +10,7 @@ use Rattle.sizes.specs.Sizes.{tableRows}
 use Rattle.sizes.proofs.Laws.{by-n-low, by-n-high, table-rule, wrong}
 use Rattle.sizes.proofs.table_rows.Statement.{statement}
 use Rattle.sizes.proofs.table_rows.Tie as tie
+use Rattle.sizes.proofs.table_rows.Reads as Reads
 
 numbers : List ℕ
 numbers = 3 ∷ 20 ∷ 63 ∷ 144 ∷ 275 ∷ 468 ∷ 735 ∷ 1088 ∷ 1539 ∷ 2100 ∷ 2783 ∷ 3600 ∷ 4563 ∷ []
@@ -39,3 +40,7 @@ returns-3 c = by-n-high tableRows (c .before .before .args .n) (search needs)
 
 pub table-rows-spec : {M : Type 1} → statement M
 table-rows-spec = tie.close (tie.spec cast-result mul-result array-read-result returns returns-2 returns-3)
+
+-- the contract admits one reply
+pub only-one : (κs : _) (a : _) (r s : _) (x y : _) → Reads.Post κs a r x → Reads.Post κs a s y → r ≡ s
+only-one κs a r s x y p q = p ∙ sym q

@@ -1,10 +1,14 @@
--- `tally::choice_refusal` meets its contract: it makes the tests of refusals 4, 11 and 13 in their order. Assumes nothing.
-use mathlib.Core.Path.{sym, _∙_}
+-- `tally::choice_refusal` meets its contract: it makes the tests of refusals 4, 11 and 13 in their order.
+-- Assumes nothing.
+use mathlib.Core.Path.{_≡_, sym, _∙_}
+use mathlib.Core.Bool.{false}
+use mathlib.Core.List.{List, []}
+use Prim.Native.Nat.{ℕ}
 use lib.ListN.{length}
 use borrow.Author.Tests.{eq-eqb, ne-eqb}
-use Rattle.counting.specs.Refuse.{firstOf}
-use Rattle.counting.proofs.Refuse.{refused, passed}
+use Rattle.counting.proofs.Refuse.{refused, passed, none-left}
 use Rattle.counting.proofs.Bools.{not-of-true, not-of-false}
+use Rattle.sizes.specs.Sizes.{outside}
 use Rattle.sizes.proofs.Laws.{inside, outside-low, outside-high}
 use Rattle.tally.specs.Reply.{choiceRefusal}
 use borrow.Author.Needs.{needs}
@@ -13,15 +17,22 @@ use Rattle.tally.proofs.choice_refusal.Tie as tie
 
 returns : tie.Need-returns
 unfolding choiceRefusal
-returns c = sym (refused 4 _ (outside-low (length (c .before .before .before .args .rows .now)) (c .if1 .taken)))
+returns c = sym (refused 4 _ (outside-low _ (c .if1 .taken)))
 
 returns-2 : tie.Need-returns-2
 unfolding choiceRefusal
-returns-2 c = sym (refused 4 _ (outside-high (length (c .before .before .before .before .args .rows .now)) (c .if2 .taken)))
+returns-2 c = sym (refused 4 _ (outside-high _ (c .if2 .taken)))
+
+-- where 4 is passed
+abbrev rows-of : tie.Else2 → List ℕ
+rows-of c = c .before .before .before .before .args .rows .now
+
+within : (c : tie.Else2) → outside (length (rows-of c)) ≡ false
+within c = inside _ (search needs) (search needs)
 
 returns-3 : tie.Need-returns-3
 unfolding choiceRefusal
-returns-3 c = sym (passed 4 _ (inside (length (c .before .before .before .before .before .args .rows .now)) (search needs) (search needs)) ∙ refused 11 _ (not-of-false (ne-eqb _ _ (c .if3 .taken))))
+returns-3 c = sym (passed 4 _ (within (c .before)) ∙ refused 11 _ (not-of-false (ne-eqb _ _ (c .if3 .taken))))
 
 has-above2-requires : tie.Need-has-above2-requires
 has-above2-requires c κs = search needs
@@ -29,19 +40,21 @@ has-above2-requires c κs = search needs
 returns-4 : tie.Need-returns-4
 unfolding choiceRefusal
 returns-4 c =
+    let l = c .before .before in
     sym
-    (passed 4 _ (inside (length (c .before .before .before .before .before .before .before .args .rows .now)) (search needs) (search needs))
-    ∙ passed 11 _ (not-of-true (eq-eqb _ _ (c .before .before .if3 .left)))
+    (passed 4 _ (within (l .before))
+    ∙ passed 11 _ (not-of-true (eq-eqb _ _ (l .if3 .left)))
     ∙ refused 13 _ (sym (c .before .has-above2 .ensures) ∙ c .if4 .taken))
 
 returns-5 : tie.Need-returns-5
-unfolding choiceRefusal firstOf
+unfolding choiceRefusal
 returns-5 c =
-    rw (
-      inside (length (c .before .before .before .before .before .before .before .args .rows .now)) (search needs) (search needs),
-      eq-eqb (length (c .before .before .before .before .before .before .before .args .rows .now)) (length (c .before .before .before .before .before .before .before .args .confidences .now)) (c .before .before .if3 .left),
-      sym (c .before .has-above2 .ensures) ∙ c .if4 .left,
-    )
+    let l = c .before .before in
+    sym
+    (passed 4 _ (within (l .before))
+    ∙ passed 11 _ (not-of-true (eq-eqb _ _ (l .if3 .left)))
+    ∙ passed 13 [] (sym (c .before .has-above2 .ensures) ∙ c .if4 .left)
+    ∙ none-left)
 
 pub choice-refusal-spec : {M : Type 1} → statement M
 choice-refusal-spec =

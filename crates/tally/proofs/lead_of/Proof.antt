@@ -6,7 +6,7 @@ use Prim.Native.Nat.{_≤_, _+_, _-_}
 use native.Mathlib.Omega.{arith}
 use lib.ListN.{length}
 use Rattle.counting.specs.Most.{best, most, support}
-use Rattle.tally.specs.Reply.{leadOf}
+use Rattle.tally.specs.Inside.{leadOf}
 use Rattle.tally.proofs.Leads.{lead-turn, own-lead, lead-most, lead-early}
 use borrow.Author.Needs.{needs}
 use Rattle.tally.proofs.lead_of.Statement.{statement}

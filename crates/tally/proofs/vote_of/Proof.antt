@@ -1,28 +1,25 @@
 -- `tally::vote_of` meets its contract: none of the first i rows is carried, and i is at most t + 1, which is within the
 -- length since 3t < n. The first carried row is the vote, since no other is; and where none of the first t + 1 rows is
 -- carried no row is, and the vote is 0. What is left of t + 1 falls. Assumes nothing.
-use mathlib.Core.Path.{_≡_, sym, _∙_}
-use mathlib.Core.Bool.{false}
-use Prim.Native.Nat.{_≤_, _+_, _-_}
+use mathlib.Core.Path.{sym, _∙_}
+use Prim.Native.Nat.{_+_, _-_}
 use native.Mathlib.Omega.{arith}
 use lib.ListN.{getD}
-use Rattle.counting.specs.Count.{any}
-use Rattle.counting.proofs.Count.{any-turn}
+use Rattle.counting.proofs.Loops.{NoneYet, search-begins, search-turn, search-ends}
 use Rattle.tally.specs.Tally.{carried}
-use Rattle.tally.proofs.Laws.{carried-is, vote-is, vote-nowhere}
+use Rattle.tally.proofs.Laws.{carried-stands, vote-is, vote-nowhere}
 use borrow.Author.Needs.{needs}
 use Rattle.tally.proofs.vote_of.Statement.{statement}
 use Rattle.tally.proofs.vote_of.Tie as tie
 
 abbrev Inv-loop : tie.InvT-loop
-Inv-loop rows t last i₀ i = (i ≤ t + 1) × (any i (λ k. carried t rows (getD rows k 0)) ≡ false)
+Inv-loop rows t last i₀ i = NoneYet (t + 1) (λ k. carried t rows (getD rows k 0)) i
 
 abbrev μ-loop : tie.MeasureT-loop
 μ-loop rows t last i₀ i = t + 1 - i
 
 loop-holds : tie.Need-loop-holds Inv-loop μ-loop
-unfolding any
-loop-holds c = search needs
+loop-holds c = search-begins _
 
 mul-is-carried : tie.Need-mul-is-carried Inv-loop μ-loop
 mul-is-carried c = search needs
@@ -41,9 +38,8 @@ shared-slice-read-result c = search needs
 
 returns : tie.Need-returns Inv-loop μ-loop
 returns c =
-    let p = c .before .before .before .before .before .before .before .pre in
     let passed = sym (c .before .before .is-carried .ensures) ∙ c .before .if1 .taken in
-    sym (vote-is _ _ p _ (carried-is _ _ _ passed))
+    sym (vote-is _ _ (search needs) _ (carried-stands _ _ _ passed))
 
 add-i : tie.Need-add-i Inv-loop μ-loop
 add-i c = search needs
@@ -53,13 +49,12 @@ loop-less c = search needs
 
 loop-again : tie.Need-loop-again Inv-loop μ-loop
 loop-again c =
-    let so-far = c .before .before .before .before .loop .inv in
-    (search needs, any-turn _ _ (so-far .1) (sym (c .before .is-carried .ensures) ∙ c .if1 .left))
+    search-turn _ (search needs) (search needs) (c .before .is-carried .ensures) (c .if1 .left)
 
 returns-2 : tie.Need-returns-2 Inv-loop μ-loop
 returns-2 c =
-    let whole : c .before .loop .i ≡ c .before .before .before .args .t + 1 = omega arith in
-    sym (vote-nowhere _ _ (c .before .before .before .pre) (rw (← whole) (c .before .loop .inv .1)))
+    let none = search-ends _ (c .before .loop .inv) (omega arith) in
+    sym (vote-nowhere _ _ (c .before .before .before .pre) (sym none))
 
 pub vote-of-spec : {M : Type 1} → statement M
 vote-of-spec =

@@ -2,16 +2,16 @@
 -- and the lists, and the counter grows by the messages. Assumes nothing.
 use mathlib.Core.Path.{_≡_, sym, _∙_}
 use native.Mathlib.Omega.{arith}
-use Rattle.run.proofs.Accepted.{Accepted, is-accepted}
+use Rattle.run.proofs.Accepted.{Iterable, is-accepted}
 use Rattle.run.proofs.Refusals.{iterate-refused, iterate-taken}
-use Rattle.run.proofs.Whole.{high, done-small, sent-small, grades, cast-sized, next-is}
+use Rattle.run.proofs.Whole.{high, done-small, sent-small, grades, cast-cells, next-is}
 use borrow.Author.Needs.{needs}
 use Rattle.run.proofs.Run.iterate.Statement.{statement}
 use Rattle.run.proofs.Run.iterate.Tie as tie
 use Rattle.run.proofs.Run.iterate.Reads as Reads
 
 -- where the refusal is 0 the call is accepted
-accepted : (c : tie.Else1) → Accepted (c .before .before .before .args .self) (c .before .before .before .args .table .now)
+accepted : (c : tie.Else1) → Iterable (c .before .before .before .args .self) (c .before .before .before .args .table .now)
 accepted c = is-accepted _ _ (sym (c .before .iterate-refusal .ensures) ∙ c .if1 .left)
 
 iterate-refusal-requires : tie.Need-iterate-refusal-requires
@@ -27,10 +27,10 @@ steps-requires : tie.Need-steps-requires
 steps-requires c κs = search needs
 
 step5-rows-requires : tie.Need-step5-rows-requires
-step5-rows-requires c κs = cast-sized _ _ (accepted (c .before .before .before .before .before .before .before .before .before .before .before)) _ (c .before .before .before .before .before .steps .ensures)
+step5-rows-requires c κs = cast-cells _ _ (accepted (c .before .before .before .before .before .before .before .before .before .before .before)) _ (c .before .before .before .before .before .steps .ensures)
 
 step5-lists-requires : tie.Need-step5-lists-requires
-step5-lists-requires c κs = let a = accepted (c .before .before .before .before .before .before .before .before .before .before .before .before .before .before .before) in (cast-sized _ _ a _ (c .before .before .before .before .before .before .before .before .before .steps .ensures) .all-confidences, high _ _ a)
+step5-lists-requires c κs = let a = accepted (c .before .before .before .before .before .before .before .before .before .before .before .before .before .before .before) in (cast-cells _ _ a _ (c .before .before .before .before .before .before .before .before .before .steps .ensures) .all-confidences, high _ _ a)
 
 add-t21 : tie.Need-add-t21
 add-t21 c = omega (arith, done-small (c .before .before .before .before .before .before .before .before .before .before .before .before .before .before .before .before .before .before .before .before .args .self) (c .before .before .before .before .before .before .before .before .before .before .before .before .before .before .before .before .before .before .before .before .args .table .now) (accepted (c .before .before .before .before .before .before .before .before .before .before .before .before .before .before .before .before .before)))
