@@ -9,10 +9,16 @@ is-sound-box-requires : tie.Need-is-sound-box-requires
 is-sound-box-requires c κs = search needs
 
 new-row-requires : tie.Need-new-row-requires
-new-row-requires c κs = (c .before .before .before .before .pre .0, record { is-box = is-box _ _ _ (sym (c .before .is-sound-box .ensures) ∙ c .if1 .taken); is-sound = is-sound _ _ _ (sym (c .before .is-sound-box .ensures) ∙ c .if1 .taken) })
+new-row-requires c κs =
+    let box = sym (c .before .is-sound-box .ensures) ∙ c .if1 .taken in
+    let start = c .before .before .before in
+    (start .before .pre .0, record { is-box = is-box _ _ _ box; is-sound = is-sound _ _ _ box })
 
 returns : tie.Need-returns
-returns c = λ table g. c .new-row .ensures table g ∙ entry-box _ _ _ _ (sym (c .before .before .is-sound-box .ensures) ∙ c .before .if1 .taken)
+returns c =
+    λ table g.
+    let box = sym (c .before .before .is-sound-box .ensures) ∙ c .before .if1 .taken in
+    c .new-row .ensures table g ∙ entry-box _ _ _ _ box
 
 returns-2 : tie.Need-returns-2
 returns-2 c = λ table g. entry-none _ _ _ _ (sym (c .before .is-sound-box .ensures) ∙ c .if1 .left)

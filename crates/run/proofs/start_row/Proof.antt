@@ -14,7 +14,11 @@ mul-result : tie.Need-mul-result
 mul-result c = omega (arith, c .before .before .before .pre .0)
 
 shared-slice-read-result : tie.Need-shared-slice-read-result
-shared-slice-read-result c = omega (arith, c .before .before .before .before .pre .1, is-box (c .before .before .before .before .args .n) (c .before .before .before .before .args .faulty) (c .before .before .before .before .args .k) (sym (c .before .before .is-sound-box .ensures) ∙ c .before .if1 .taken))
+shared-slice-read-result c =
+    let l = c .before .before in
+    let s = l .before .before in
+    let box = sym (l .is-sound-box .ensures) ∙ c .before .if1 .taken in
+    omega (arith, s .pre .1, is-box (s .args .n) (s .args .faulty) (s .args .k) box)
 
 returns : tie.Need-returns
 unfolding startRow
