@@ -1,6 +1,6 @@
--- Demand 3. By induction on the iterations: the state stays legal and fair, so no call is refused. After m iterations the sound
--- rows are all equal, or m boxes are on every sound list; there are at most t of those, so after t + 1 the rows are equal.
--- Assumes nothing.
+-- Demand 3. By induction on the iterations: the state stays legal and fair, so no call is refused. After m iterations
+-- the sound rows are all equal, or m boxes are on every sound list; there are at most t of those, so after t + 1 the
+-- rows are equal. Assumes nothing.
 use mathlib.Core.Path.{_≡_, refl, sym, ap, _∙_, subst, subst₃}
 use mathlib.Core.Bool.{true}
 use mathlib.Core.List.{List}
@@ -139,7 +139,8 @@ module _ (n t faulty : ℕ) (rows : List ℕ) (tables : ℕ → List ℕ) (setti
       m l (λ legal fair. split-joins (state m) (tables m) legal fair j k) sj b none
 
   -- a row that all sound boxes hold stays
-  stays : (m : ℕ) → m < iterations t → (v : ℕ) → AllHold n faulty (state m .rows) v → AllHold n faulty (state (suc m) .rows) v
+  stays : (m : ℕ) → m < iterations t → (v : ℕ) → AllHold n faulty (state m .rows) v →
+      AllHold n faulty (state (suc m) .rows) v
   stays m l v =
       onward (λ (a b c : ℕ) (s : Run). AllHold a c (state m .rows) v → AllHold a c (s .rows) v) m l
       (λ legal fair. rows-stay (state m) (tables m) legal fair v)
@@ -204,8 +205,8 @@ module _ (n t faulty : ℕ) (rows : List ℕ) (tables : ℕ → List ℕ) (setti
         splits-join = splits-join;
       }
 
--- demand 3, of any replies of which the first meets the contract of `start` and each next one that of `iterate`, on the
--- state before it and its table
+-- demand 3, of any replies of which the first meets the contract of `start` and each next one that of `iterate`, on
+-- the state before it and its table
 pub demand3 : {n t faulty : ℕ} {rows : List ℕ} {tables : ℕ → List ℕ} {reply : ℕ → Next} →
     Setting n t faulty rows tables → Calls n t faulty rows tables reply → Demand3 n t faulty rows tables reply
 demand3 {n} {t} {faulty} {rows} {tables} setting calls =

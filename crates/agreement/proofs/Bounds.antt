@@ -1,5 +1,5 @@
--- The three runs are computed. Their premises are what a start tests, besides the number of faulty boxes and the tables' length.
--- Assumes nothing.
+-- The three runs are computed. Their premises are what a start tests, besides the number of faulty boxes and the
+-- tables' length. Assumes nothing.
 use mathlib.Core.Path.{_≡_, refl, ap, _∙_}
 use mathlib.Core.List.{List}
 use Prim.Native.Nat.{ℕ, _≤_, _<_}
@@ -13,18 +13,47 @@ use Rattle.counting.specs.Refuse.{firstOf}
 use Rattle.sizes.specs.Sizes.{outside, tooMany, stray, tableRows, sound, soundZero}
 use Rattle.sizes.proofs.Laws.{inside-low, inside-high, tolerated-lt, within-lt}
 use Rattle.tally.specs.Tally.{carried, voteOf, supportOf, confidenceAt, confidenceOf, gradedRow, counted, chosenRow}
-use Rattle.gradecast.specs.Steps.{place1, placeFrom, place2, place3, sends, hears, heard1, heard2, column2, voted, heard3, column3, confidence, gradeRow, sentTo, messages}
+use Rattle.gradecast.specs.Steps.{
+  place1,
+  placeFrom,
+  place2,
+  place3,
+  sends,
+  hears,
+  heard1,
+  heard2,
+  column2,
+  voted,
+  heard3,
+  column3,
+  confidence,
+  gradeRow,
+  sentTo,
+  messages,
+}
 use Rattle.gradecast.specs.Fair.{faultyBoxes}
 use Rattle.gradecast.proofs.Grades.{positive}
 use Rattle.run.specs.Iteration.{gradedRows, confidences, newRow, newList, entry, nextRun}
-use Rattle.run.specs.State.{startRow, startRefusal, startRun, startReply, badPlace, badEntry, tooManySent, iterateRefusal, iterateReply, after}
+use Rattle.run.specs.State.{
+  startRow,
+  startRefusal,
+  startRun,
+  startReply,
+  badPlace,
+  badEntry,
+  tooManySent,
+  iterateRefusal,
+  iterateReply,
+  after,
+}
 use Rattle.run.proofs.Accepted.{is-start-accepted, rows-not-zero}
 use Rattle.agreement.specs.Demand.{iterations, Setting}
 use Rattle.agreement.specs.Bounds.{BoundsNeeded, three, two, splitting}
 
 -- the premises of demand 3, from a start that is not refused
 pub start-setting : (n t faulty : ℕ) (rows : List ℕ) (tables : ℕ → List ℕ) → startRefusal n t faulty rows ≡ 0 →
-    faultyBoxes n faulty ≤ t → ((m : ℕ) → m < iterations t → length (tables m) ≡ tableRows n) → Setting n t faulty rows tables
+    faultyBoxes n faulty ≤ t → ((m : ℕ) → m < iterations t → length (tables m) ≡ tableRows n) →
+    Setting n t faulty rows tables
 start-setting n t faulty rows tables e few sized =
     let a = is-start-accepted n t faulty rows e in
     record {
@@ -39,7 +68,11 @@ start-setting n t faulty rows tables e few sized =
     }
 
 pub bounds-needed : BoundsNeeded
-unfolding sum count any build find member setOf places support before best most firstOf outside tooMany stray tableRows carried voteOf supportOf confidenceAt confidenceOf gradedRow counted chosenRow sound place1 placeFrom place2 place3 sends hears heard1 heard2 column2 voted heard3 column3 confidence gradeRow sentTo messages gradedRows confidences newRow newList entry nextRun soundZero startRow startRefusal startRun startReply badPlace badEntry tooManySent iterateRefusal iterateReply after
+unfolding sum count any build find member setOf places support before best most firstOf outside tooMany stray
+    tableRows carried voteOf supportOf confidenceAt confidenceOf gradedRow counted chosenRow sound place1
+    placeFrom place2 place3 sends hears heard1 heard2 column2 voted heard3 column3 confidence gradeRow sentTo
+    messages gradedRows confidences newRow newList entry nextRun soundZero startRow startRefusal startRun
+    startReply badPlace badEntry tooManySent iterateRefusal iterateReply after
 bounds-needed =
     record {
       too-few-iterations =

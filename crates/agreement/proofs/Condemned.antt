@@ -1,6 +1,5 @@
--- Boxes that every sound box has on its list. Where no sound box is listed by a sound box they are faulty, so there are at most
--- as many of them as of faulty boxes.
--- Assumes nothing.
+-- Boxes that every sound box has on its list. Where no sound box is listed by a sound box they are faulty, so there
+-- are at most as many of them as of faulty boxes. Assumes nothing.
 use mathlib.Core.Path.{_≡_}
 use mathlib.Core.Bool.{Bool, true, not, _&&_}
 use mathlib.Core.List.{List}
@@ -23,13 +22,15 @@ module _ (n faulty : ℕ) (lists : List ℕ) where
   abbrev spares : ℕ → ℕ → Bool
   spares k i = not (member (getD lists i 0) k)
 
-  pub condemned-is : (k : ℕ) → condemned n faulty lists k ≡ true → (i : ℕ) → SoundBox n faulty i → member (getD lists i 0) k ≡ true
+  pub condemned-is : (k : ℕ) → condemned n faulty lists k ≡ true → (i : ℕ) → SoundBox n faulty i →
+      member (getD lists i 0) k ≡ true
   unfolding condemned
   condemned-is k c i b =
       not-false (member (getD lists i 0) k)
       (no-sound n faulty (spares k) (not-true (any n (λ j. sound faulty j && spares k j)) c) i b)
 
-  pub is-condemned : (k : ℕ) → ((i : ℕ) → SoundBox n faulty i → member (getD lists i 0) k ≡ true) → condemned n faulty lists k ≡ true
+  pub is-condemned : (k : ℕ) → ((i : ℕ) → SoundBox n faulty i → member (getD lists i 0) k ≡ true) →
+      condemned n faulty lists k ≡ true
   unfolding condemned
   is-condemned k h = not-of-false (sound-none n faulty (spares k) (λ i b. not-of-true (h i b)))
 

@@ -1,8 +1,8 @@
--- One iteration from a legal state in which no sound box is listed by a sound box and no sound row is 0. The state stays so. A
--- row that all sound boxes hold stays: more than half of the leaders are sound and come with it. Otherwise look for a leader
--- that one sound box counts and another does not. Where there is none, the sound boxes have the same graded rows and choose
--- alike; where there is one, it was not on every sound list before, and is after.
--- Assumes nothing.
+-- One iteration from a legal state in which no sound box is listed by a sound box and no sound row is 0. The state
+-- stays so. A row that all sound boxes hold stays: more than half of the leaders are sound and come with it.
+-- Otherwise look for a leader that one sound box counts and another does not. Where there is none, the sound boxes
+-- have the same graded rows and choose alike; where there is one, it was not on every sound list before, and is
+-- after. Assumes nothing.
 use mathlib.Core.Path.{_≡_, sym, ap, _∙_}
 use mathlib.Core.Bool.{Bool, true, false, cond, not, _&&_, _||_}
 use mathlib.Core.List.{List}
@@ -17,7 +17,18 @@ use borrow.Author.Tests.{eqb-true, eqb-false, eq-eqb, ne-eqb, le-ltb, lt-ltb}
 use Rattle.counting.specs.Count.{any, count, build}
 use Rattle.counting.specs.Most.{most}
 use Rattle.counting.specs.Sets.{member}
-use Rattle.counting.proofs.Bools.{either, never, both, and-left, and-right, not-true, not-of-false, or-none, or-true-right, cond-false}
+use Rattle.counting.proofs.Bools.{
+  either,
+  never,
+  both,
+  and-left,
+  and-right,
+  not-true,
+  not-of-false,
+  or-none,
+  or-true-right,
+  cond-false,
+}
 use Rattle.counting.proofs.Build.{length-build, getD-build, build-ext}
 use Rattle.counting.proofs.Count.{Some, any-some, any-none, count-strict}
 use Rattle.counting.proofs.Most.{most-zero}
@@ -49,7 +60,8 @@ pub record Split (n faulty : ℕ) (sure : ℕ → ℕ → ℕ) : Type 0 where
   pub counted : 1 ≤ sure i k
   pub left : sure j k ≡ 0
 
-module _ (s : Run) (table : List ℕ) (legal : Legal s) (fair : Fair (s .n) (s .t) (s .faulty) (s .rows) (s .lists)) where
+module _ (s : Run) (table : List ℕ) (legal : Legal s)
+    (fair : Fair (s .n) (s .t) (s .faulty) (s .rows) (s .lists)) where
   abbrev sure : ℕ → ℕ → ℕ
   sure i k = confidence (s .n) (s .t) (s .faulty) (s .rows) (s .lists) table i k
 
@@ -75,17 +87,20 @@ module _ (s : Run) (table : List ℕ) (legal : Legal s) (fair : Fair (s .n) (s .
         none-listed =
             λ i k si sk.
             next-member i k si (sk .below)
-            ∙ or-none (fair .none-listed i k si sk) (le-ltb (sure i k) 2 (omega (arith, promises .sound-leader i k si sk .0)));
+            ∙ or-none (fair .none-listed i k si sk)
+            (le-ltb (sure i k) 2 (omega (arith, promises .sound-leader i k si sk .0)));
         none-zero = next-not-zero s table legal;
       }
 
   -- a sound box counts itself, so it chooses a row
-  next-most : (i : ℕ) → SoundBox (s .n) (s .faulty) i → getD (nextRun s table .rows) i 0 ≡ most (build (s .n) (graded i))
+  next-most : (i : ℕ) → SoundBox (s .n) (s .faulty) i →
+      getD (nextRun s table .rows) i 0 ≡ most (build (s .n) (graded i))
   unfolding newRow gradedRows
   next-most i si =
       next-row s table i few si
       ∙ ap (λ (chosen : ℕ). cond (eqb chosen 0) (getD (s .rows) i 0) chosen) (chosen-is s table i)
-      ∙ cond-false (getD (s .rows) i 0) (most (build (s .n) (graded i))) (ne-eqb (most (build (s .n) (graded i))) 0 chooses)
+      ∙ cond-false (getD (s .rows) i 0) (most (build (s .n) (graded i)))
+      (ne-eqb (most (build (s .n) (graded i))) 0 chooses)
     where
       chooses : most (build (s .n) (graded i)) ≡ 0 → ⊥
       chooses e =
@@ -96,7 +111,8 @@ module _ (s : Run) (table : List ℕ) (legal : Legal s) (fair : Fair (s .n) (s .
           ∙ most-zero (build (s .n) (graded i)) e i (omega (arith, length-build (s .n) (graded i))))
 
   -- a row that all sound boxes hold stays
-  pub rows-stay : (v : ℕ) → AllHold (s .n) (s .faulty) (s .rows) v → AllHold (s .n) (s .faulty) (nextRun s table .rows) v
+  pub rows-stay : (v : ℕ) → AllHold (s .n) (s .faulty) (s .rows) v →
+      AllHold (s .n) (s .faulty) (nextRun s table .rows) v
   rows-stay v h i si =
       next-most i si
       ∙ most-majority (build (s .n) (graded i)) v
@@ -150,7 +166,8 @@ module _ (s : Run) (table : List ℕ) (legal : Legal s) (fair : Fair (s .n) (s .
       (k : ℕ) → k < s .n → graded i k ≡ graded j k
   same-graded none i j si sj k l = go (ℕ-discrete (sure i k) 0) (ℕ-discrete (sure j k) 0)
     where
-      apart : (a b : ℕ) → SoundBox (s .n) (s .faulty) a → SoundBox (s .n) (s .faulty) b → (sure a k ≡ 0 → ⊥) → sure b k ≡ 0 → ⊥
+      apart : (a b : ℕ) → SoundBox (s .n) (s .faulty) a → SoundBox (s .n) (s .faulty) b → (sure a k ≡ 0 → ⊥) →
+          sure b k ≡ 0 → ⊥
       apart a b sa sb y z =
           never
           (both
@@ -185,13 +202,16 @@ module _ (s : Run) (table : List ℕ) (legal : Legal s) (fair : Fair (s .n) (s .
       (l : ℕ) → SoundBox (s .n) (s .faulty) l → member (getD (nextRun s table .lists) l 0) k ≡ true
   split-joins j k sj b none l sl =
       next-member l k sl b
-      ∙ or-true-right (member (getD (s .lists) l 0) k) (lt-ltb (sure l k) 2 (omega (arith, promises .split-weak j l k sj sl none)))
+      ∙ or-true-right (member (getD (s .lists) l 0) k)
+      (lt-ltb (sure l k) 2 (omega (arith, promises .split-weak j l k sj sl none)))
 
   -- so a leader that parts the sound boxes is one more on every sound list
   pub split-more : Split (s .n) (s .faulty) sure →
-      count (s .n) (condemned (s .n) (s .faulty) (s .lists)) < count (s .n) (condemned (s .n) (s .faulty) (nextRun s table .lists))
+      count (s .n) (condemned (s .n) (s .faulty) (s .lists)) < count (s .n)
+      (condemned (s .n) (s .faulty) (nextRun s table .lists))
   split-more w =
-      count-strict (s .n) (condemned (s .n) (s .faulty) (s .lists)) (condemned (s .n) (s .faulty) (nextRun s table .lists))
+      count-strict (s .n) (condemned (s .n) (s .faulty) (s .lists))
+      (condemned (s .n) (s .faulty) (nextRun s table .lists))
       (λ k l c.
       is-condemned (s .n) (s .faulty) (nextRun s table .lists) k
       (λ i si. list-kept s table i k few si l (condemned-is (s .n) (s .faulty) (s .lists) k c i si)))

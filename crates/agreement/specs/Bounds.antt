@@ -1,4 +1,5 @@
--- The bounds of demand 3 are needed. Three small runs, each computed from the definitions: boxes count from 0, sets in bits.
+-- The bounds of demand 3 are needed. Three small runs, each computed from the definitions: boxes count from 0, sets
+-- in bits.
 use Prim.Native.Nat.{ℕ, _+_, _*_, _≤_}
 use mathlib.Core.Path.{_≡_}
 use mathlib.Core.List.{List, [], _∷_}
@@ -8,7 +9,8 @@ use Rattle.gradecast.specs.Lies.{silent}
 use Rattle.gradecast.specs.Fair.{faultyBoxes, NoSoundListed, SoundRowsNotZero}
 use Rattle.agreement.specs.Demand.{Setting, replies, rowsAfter, confidenceIn}
 
--- box 3 of 4 sends, all for itself as leader: in step 1 20 to boxes 0 and 1, in step 2 20 to box 0, in step 3 20 to box 1
+-- box 3 of 4 sends, all for itself as leader: in step 1 20 to boxes 0 and 1, in step 2 20 to box 0, in step 3 20 to
+-- box 1
 abbrev pub splitting : ℕ → List ℕ
 splitting m =
     set (set (set (set (silent 4) (place1 4 3 0) 20) (place1 4 3 1) 20) (place2 4 3 0 3) 20) (place3 4 3 1 3) 20
@@ -17,8 +19,8 @@ splitting m =
 abbrev pub three : List ℕ
 three = 10 ∷ 20 ∷ 30 ∷ 0 ∷ []
 
--- t iterations are too few: the premises hold, a faulty leader is counted by box 1 and not by box 0, and after t iterations
--- boxes 0 and 1 hold different rows
+-- t iterations are too few: the premises hold, a faulty leader is counted by box 1 and not by box 0, and after t
+-- iterations boxes 0 and 1 hold different rows
 pub record TooFewIterations : Type 0 where
   pub setting : Setting 4 1 8 three splitting
   pub counts : confidenceIn 4 1 8 splitting (replies 4 1 8 three splitting) 0 1 3 ≡ 1
@@ -34,7 +36,8 @@ twoFaced m = set (set (silent 3) (place3 3 2 0 2) 5) (place3 3 2 1 2) 7
 abbrev pub two : List ℕ
 two = 10 ∷ 20 ∷ 0 ∷ []
 
--- t + 1 faulty boxes are too many: with t = 0 and one faulty box no call is refused, and boxes 0 and 1 end with different rows
+-- t + 1 faulty boxes are too many: with t = 0 and one faulty box no call is refused, and boxes 0 and 1 end with
+-- different rows
 pub record TooManyFaulty : Type 0 where
   pub faulty-boxes : faultyBoxes 3 4 ≡ 0 + 1
   pub start : replies 3 0 4 two twoFaced 0 .refusal ≡ 0

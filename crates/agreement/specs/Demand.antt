@@ -1,5 +1,6 @@
--- Demand 3: what is assumed of a run, and what is claimed of the replies, of which the first is a start's and each next one
--- an iteration's. Boxes count from 0. A claim is made for every set of faulty boxes and for everything that they send.
+-- Demand 3: what is assumed of a run, and what is claimed of the replies, of which the first is a start's and each
+-- next one an iteration's. Boxes count from 0. A claim is made for every set of faulty boxes and for everything that
+-- they send.
 use Prim.Native.Nat.{ℕ, suc, _+_, _*_, _^_, _≤_, _<_}
 use mathlib.Core.Path.{_≡_}
 use mathlib.Core.Bool.{true}
@@ -16,8 +17,8 @@ use Rattle.run.specs.State.{startReply, after}
 abbrev pub iterations : ℕ → ℕ
 iterations t = t + 1
 
--- what is assumed: n from 1 to 13, 3t less than n, at most t of the n boxes faulty, n starting rows of which no sound box's is
--- 0, and a table of the right length for each iteration
+-- what is assumed: n from 1 to 13, 3t less than n, at most t of the n boxes faulty, n starting rows of which no sound
+-- box's is 0, and a table of the right length for each iteration
 pub record Setting (n t faulty : ℕ) (rows : List ℕ) (tables : ℕ → List ℕ) : Type 0 where
   pub from-1 : 1 ≤ n
   pub to-13 : n ≤ 13

@@ -65,7 +65,8 @@ front-turn n f xs ys {v} l e h =
     ∙ sym (append-snoc (build n f) (f n) (drop (suc n) xs)))
 
 -- a place that holds f's number already
-pub front-stays : (n : ℕ) (f : ℕ → ℕ) (xs : List ℕ) → n < length xs → getD xs n 0 ≡ f n → front n f xs ≡ front (n + 1) f xs
+pub front-stays : (n : ℕ) (f : ℕ → ℕ) (xs : List ℕ) → n < length xs → getD xs n 0 ≡ f n →
+    front n f xs ≡ front (n + 1) f xs
 unfolding front build
 front-stays n f xs l h =
     rw add-one
@@ -102,7 +103,9 @@ pub front-four : (n : ℕ) (f : ℕ → ℕ) (xs ys : List ℕ) {a b c d : ℕ} 
     a ≡ f n → b ≡ f (n + 1) → c ≡ f (n + 2) → d ≡ f (n + 3) →
     set (set (set (set ys n a) (n + 1) b) (n + 2) c) (n + 3) d ≡ front (n + 4) f xs
 front-four n f xs ys l e ha hb hc hd =
-    next 3 (next 2 (next 1 (front-turn n f xs ys (omega arith) e ha) hb (omega arith)) hc (omega arith)) hd (omega arith)
+    next 3 (next 2 (next 1 (front-turn n f xs ys (omega arith) e ha) hb (omega arith)) hc (omega arith)) hd
+    (omega arith)
   where
-    next : (k : ℕ) {zs : List ℕ} {v : ℕ} → zs ≡ front (n + k) f xs → v ≡ f (n + k) → k < 4 → set zs (n + k) v ≡ front (n + (k + 1)) f xs
+    next : (k : ℕ) {zs : List ℕ} {v : ℕ} → zs ≡ front (n + k) f xs → v ≡ f (n + k) → k < 4 →
+        set zs (n + k) v ≡ front (n + (k + 1)) f xs
     next k {zs} q h s = front-turn (n + k) f xs zs (omega arith) q h ∙ ap (λ (m : ℕ). front m f xs) (add-assoc n k 1)

@@ -5,13 +5,35 @@ use mathlib.Core.Bool.{Bool, true, false, cond, not, _&&_, _||_}
 use mathlib.Core.Logic.{_⊎_, ⊎-elim}
 use mathlib.Core.Logic._⊎_.{inl, inr}
 use Prim.Native.Nat.{ℕ, zero, suc, _+_, _-_, _*_, _/_, _%_, _≤_, _<_}
-use native.Mathlib.Nat.{le-refl, not-suc-le-zero, add-zero, mul-zero, mul-add, mul-comm, mul-suc, add-le-add, add-suc, add-assoc, zero-mul, suc-mul}
+use native.Mathlib.Nat.{
+  le-refl,
+  not-suc-le-zero,
+  add-zero,
+  mul-zero,
+  mul-add,
+  mul-comm,
+  mul-suc,
+  add-le-add,
+  add-suc,
+  add-assoc,
+  zero-mul,
+  suc-mul,
+}
 use native.Mathlib.Decide.{ℕ-discrete}
 use native.Mathlib.Numerals.{add-one}
 use native.Mathlib.Omega.{arith}
 use lib.Arith.{digits-div, digits-mod}
 use Rattle.counting.specs.Count.{sum, count, any, find}
-use Rattle.counting.proofs.Bools.{never, either, both, not-of-false, or-cases, or-false-left, or-false-right, or-none}
+use Rattle.counting.proofs.Bools.{
+  never,
+  either,
+  both,
+  not-of-false,
+  or-cases,
+  or-false-left,
+  or-false-right,
+  or-none,
+}
 
 -- what holds of every k below suc n holds below n, and at n
 module _ {P : ℕ → Type 0} where
@@ -137,7 +159,8 @@ pub count-zero : (n : ℕ) (p : ℕ → Bool) → count n p ≡ 0 → (k : ℕ) 
 unfolding count
 count-zero zero p e k l = absurd (not-suc-le-zero l)
 count-zero (suc n) p e k l =
-    ⊎-elim (λ q. ap p q ∙ none (p n) (omega (arith, e))) (λ b. count-zero n p (omega (arith, e)) k b) (at-or-below k n l)
+    ⊎-elim (λ q. ap p q ∙ none (p n) (omega (arith, e))) (λ b. count-zero n p (omega (arith, e)) k b)
+    (at-or-below k n l)
   where
     none : (b : Bool) → _≡_ {A = ℕ} (cond b 1 0) 0 → b ≡ false
     none true z = absurd (omega arith)
@@ -173,7 +196,8 @@ pub record Some (n : ℕ) (p : ℕ → Bool) : Type 0 where
 
 pub count-some : (n : ℕ) (p : ℕ → Bool) → 0 < count n p → Some n p
 count-some n p h =
-    let b : Between n (λ k. false) p = count-more n (λ k. false) p (omega (arith, count-none n (λ k. false) (λ k l. refl))) in
+    let b : Between n (λ k. false) p = count-more n (λ k. false) p
+    (omega (arith, count-none n (λ k. false) (λ k l. refl))) in
     record { at = b .at; below = b .below; passes = b .passes }
 
 -- a place that passes the test is counted
@@ -242,7 +266,8 @@ unfolding find
 find-cases zero p f = inr (refl, λ k l. absurd (not-suc-le-zero l))
 find-cases (suc n) p f = go (p (f n)) refl (find-cases n p f)
   where
-    go : (b : Bool) → p (f n) ≡ b → Found n p f (find n p f) ⊎ ((find n p f ≡ 0) × ((k : ℕ) → k < n → p (f k) ≡ false)) →
+    go : (b : Bool) → p (f n) ≡ b →
+        Found n p f (find n p f) ⊎ ((find n p f ≡ 0) × ((k : ℕ) → k < n → p (f k) ≡ false)) →
         Found (suc n) p f (find (suc n) p f) ⊎ ((find (suc n) p f ≡ 0) × ((k : ℕ) → k < suc n → p (f k) ≡ false))
     go true e rest = inl (rw e (record { at = n; below = le-refl _; here = refl; passes = e }))
     go false e (inl w) =
@@ -264,7 +289,8 @@ any-turn n p h e = rw add-one (or-none h e)
 pub count-add : (a b : ℕ) (p : ℕ → Bool) → count (a + b) p ≡ count a p + count b (λ k. p (a + k))
 unfolding count
 count-add a zero p = rw add-zero (sym (add-zero (count a p)))
-count-add a (suc b) p = rw add-suc (ap (λ (m : ℕ). m + cond (p (a + b)) 1 0) (count-add a b p) ∙ add-assoc (count a p) _ _)
+count-add a (suc b) p =
+    rw add-suc (ap (λ (m : ℕ). m + cond (p (a + b)) 1 0) (count-add a b p) ∙ add-assoc (count a p) _ _)
 
 -- a test that passes in more places than come behind the first a passes in one of those
 pub count-first : (a n : ℕ) (p : ℕ → Bool) → a ≤ n → n - a < count n p → Some a p

@@ -1,6 +1,6 @@
--- What the loops of the crates above go by, each kind said once: one that fills a list, one that searches and one that
--- counts. For each: what holds after k of m turns, that it holds before the first turn and after one more, and what has
--- been done where the turns are at an end. Assumes nothing.
+-- What the loops of the crates above go by, each kind said once: one that fills a list, one that searches and one
+-- that counts. For each: what holds after k of m turns, that it holds before the first turn and after one more, and
+-- what has been done where the turns are at an end. Assumes nothing.
 use mathlib.Core.Path.{_≡_, refl, sym, ap, _∙_}
 use mathlib.Core.Bool.{Bool, true, false, cond}
 use mathlib.Core.List.{List}

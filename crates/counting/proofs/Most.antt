@@ -1,6 +1,5 @@
--- The number found most often: it has the greatest support, it is the lowest of those, it stands in the list, and it is 0 only
--- where every element is 0. No second number has these properties.
--- Assumes nothing.
+-- The number found most often: it has the greatest support, it is the lowest of those, it stands in the list, and it
+-- is 0 only where every element is 0. No second number has these properties. Assumes nothing.
 use mathlib.Core.Path.{_≡_, refl, sym, ap, _∙_, subst}
 use mathlib.Core.Bool.{Bool, true, false, cond, _&&_}
 use mathlib.Core.List.{List}
@@ -15,7 +14,21 @@ use lib.Dec.{eqb, ltb}
 use lib.ListN.{length, getD}
 use borrow.Author.Tests.{ltb-true, ltb-false, eqb-true, eq-eqb, ne-eqb, lt-ltb, le-ltb}
 use Rattle.counting.specs.Most.{places, support, before, best, most}
-use Rattle.counting.proofs.Bools.{either, never, or-cases, or-false-left, or-false-right, and-left, and-right, and-false-right, both, not-both, or-none, or-true-left, cond-false}
+use Rattle.counting.proofs.Bools.{
+  either,
+  never,
+  or-cases,
+  or-false-left,
+  or-false-right,
+  and-left,
+  and-right,
+  and-false-right,
+  both,
+  not-both,
+  or-none,
+  or-true-left,
+  cond-false,
+}
 use Rattle.counting.proofs.Count.{Some, count-some, some-count, count-first, at-or-below}
 
 -- 0 has no support, and any other number its places
@@ -41,7 +54,8 @@ supported xs v h = (not-zero, stands)
     not-zero e = not-suc-le-zero (subst (λ (m : ℕ). 0 < m) (ap (support xs) e) h)
 
     some : Some (length xs) (λ k. eqb (getD xs k 0) v)
-    some = count-some (length xs) (λ k. eqb (getD xs k 0) v) (subst (λ (m : ℕ). 0 < m) (support-places xs v not-zero) h)
+    some =
+        count-some (length xs) (λ k. eqb (getD xs k 0) v) (subst (λ (m : ℕ). 0 < m) (support-places xs v not-zero) h)
 
     stands : Stands xs v
     stands = record { at = some .at; below = some .below; here = eqb-true (getD xs (some .at) 0) v (some .passes) }
@@ -97,7 +111,8 @@ beats xs a b h = record { greatest = le-refl _; lowest = λ e. le-refl _ }
 best-holds : (xs : List ℕ) (k j : ℕ) → j < k → Holds xs (best xs k) (getD xs j 0)
 unfolding best
 best-holds xs zero j l = absurd (not-suc-le-zero l)
-best-holds xs (suc k) j l = go (before xs (best xs k) (getD xs k 0)) refl (at-or-below j k l) (λ b. best-holds xs k j b)
+best-holds xs (suc k) j l =
+    go (before xs (best xs k) (getD xs k 0)) refl (at-or-below j k l) (λ b. best-holds xs k j b)
   where
     go : (b : Bool) → before xs (best xs k) (getD xs k 0) ≡ b → (j ≡ k) ⊎ (j < k) →
         (j < k → Holds xs (best xs k) (getD xs j 0)) →
@@ -108,7 +123,8 @@ best-holds xs (suc k) j l = go (before xs (best xs k) (getD xs k 0)) refl (at-or
     go false e (inr b) rest = rest b
 
 -- the best of the first k is 0 or one of them
-best-in : (xs : List ℕ) (k : ℕ) → (best xs k ≡ 0) ⊎ (record { at : ℕ; below : at < k; here : getD xs at 0 ≡ best xs k })
+best-in : (xs : List ℕ) (k : ℕ) →
+    (best xs k ≡ 0) ⊎ (record { at : ℕ; below : at < k; here : getD xs at 0 ≡ best xs k })
 unfolding best
 best-in xs zero = inl refl
 best-in xs (suc k) = go (before xs (best xs k) (getD xs k 0)) refl (best-in xs k)
@@ -121,8 +137,8 @@ best-in xs (suc k) = go (before xs (best xs k) (getD xs k 0)) refl (best-in xs k
     go false e (inl z) = inl z
     go false e (inr w) = inr (record { at = w .at; below = omega arith; here = w .here })
 
--- what the most frequent number of xs is: w has the greatest support, and no other number with as much is lower; where w is
--- 0, nothing has support
+-- what the most frequent number of xs is: w has the greatest support, and no other number with as much is lower;
+-- where w is 0, nothing has support
 pub record IsMost (xs : List ℕ) (w : ℕ) : Type 0 where
   pub greatest : (v : ℕ) → support xs v ≤ support xs w
   pub lowest : (v : ℕ) → (v ≡ 0 → ⊥) → support xs v ≡ support xs w → w ≤ v
@@ -240,6 +256,7 @@ module _ (xs : List ℕ) (a b : ℕ) where
       rw (le-ltb (support xs a) (support xs b) (omega arith), eq-eqb (support xs a) (support xs b) e) refl
 
 -- the turn of a loop that keeps the best so far
-pub best-turn : (xs : List ℕ) (k : ℕ) → best xs (k + 1) ≡ cond (before xs (best xs k) (getD xs k 0)) (getD xs k 0) (best xs k)
+pub best-turn : (xs : List ℕ) (k : ℕ) →
+    best xs (k + 1) ≡ cond (before xs (best xs k) (getD xs k 0)) (getD xs k 0) (best xs k)
 unfolding best
 best-turn xs k = rw add-one refl

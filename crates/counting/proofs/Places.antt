@@ -1,7 +1,6 @@
--- Places of a number in a list. A built list has as many places of v as the function has below n. Two numbers whose places
--- together are more than the list has meet in one place, so they are one number. And so a number in more than half of the
--- places is the one found most often.
--- Assumes nothing.
+-- Places of a number in a list. A built list has as many places of v as the function has below n. Two numbers whose
+-- places together are more than the list has meet in one place, so they are one number. And so a number in more than
+-- half of the places is the one found most often. Assumes nothing.
 use mathlib.Core.Path.{_≡_, refl, sym, ap, _∙_}
 use mathlib.Core.Bool.{true, false, _&&_}
 use mathlib.Core.List.{List}
@@ -21,7 +20,8 @@ pub places-build : (n : ℕ) (f : ℕ → ℕ) (v : ℕ) → places (build n f) 
 unfolding places
 places-build n f v =
     rw (length-build n f)
-    (count-ext n (λ k. eqb (getD (build n f) k 0) v) (λ k. eqb (f k) v) (λ k l. ap (λ (m : ℕ). eqb m v) (getD-build n f k 0 l)))
+    (count-ext n (λ k. eqb (getD (build n f) k 0) v) (λ k. eqb (f k) v)
+    (λ k l. ap (λ (m : ℕ). eqb m v) (getD-build n f k 0 l)))
 
 -- two tests of equality that hold together
 pub one-number : (x v w : ℕ) → (eqb x v && eqb x w) ≡ true → v ≡ w

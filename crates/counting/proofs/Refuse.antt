@@ -1,6 +1,5 @@
--- Numbered refusals: the first test that holds gives its number, one that does not hold is passed over, and where the number is
--- 0 no test holds.
--- Assumes nothing.
+-- Numbered refusals: the first test that holds gives its number, one that does not hold is passed over, and where the
+-- number is 0 no test holds. Assumes nothing.
 use mathlib.Core.Path.{_≡_, refl}
 use mathlib.Core.Bool.{Bool, true, false}
 use mathlib.Core.List.{List, [], _∷_, _++_}

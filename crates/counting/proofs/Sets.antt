@@ -5,7 +5,17 @@ use mathlib.Core.Path.{_≡_, refl, sym, ap, _∙_, subst}
 use mathlib.Core.Bool.{Bool, true, false, cond, _||_}
 use mathlib.Core.Logic.{⊎-elim}
 use Prim.Native.Nat.{ℕ, zero, suc, _+_, _-_, _*_, _/_, _%_, _^_, _≤_, _<_, max}
-use native.Mathlib.Nat.{not-suc-le-zero, div-eq-of-lt, lt-of-lt-of-le, add-comm, mul-assoc, zero-mul, one-mul, add-mul-div-right, add-mul-mod-self-right}
+use native.Mathlib.Nat.{
+  not-suc-le-zero,
+  div-eq-of-lt,
+  lt-of-lt-of-le,
+  add-comm,
+  mul-assoc,
+  zero-mul,
+  one-mul,
+  add-mul-div-right,
+  add-mul-mod-self-right,
+}
 use native.Mathlib.Numerals.{add-one}
 use native.Mathlib.Omega.{arith}
 use lib.Arith.{digits-mod}
@@ -22,7 +32,8 @@ double n = ap (λ (m : ℕ). 2 ^ m) (sym (add-one n)) ∙ pow-add 2 n 1 ∙ omeg
 pub setOf-ext : (n : ℕ) (p q : ℕ → Bool) → ((k : ℕ) → k < n → p k ≡ q k) → setOf n p ≡ setOf n q
 unfolding setOf
 setOf-ext n p q h =
-    sum-ext n (λ k. cond (p k) (2 ^ k) 0) (λ k. cond (q k) (2 ^ k) 0) (λ k l. ap (λ (b : Bool). cond b (2 ^ k) 0) (h k l))
+    sum-ext n (λ k. cond (p k) (2 ^ k) 0) (λ k. cond (q k) (2 ^ k) 0)
+    (λ k l. ap (λ (b : Bool). cond b (2 ^ k) 0) (h k l))
 
 -- a set of boxes below n is below 2 ^ n
 pub setOf-lt : (n : ℕ) (p : ℕ → Bool) → setOf n p < 2 ^ n

@@ -1,5 +1,5 @@
--- Sums and counts over the numbers below a bound, and the list built from a function. Each goes by the highest index, as a
--- loop that counts up puts it on.
+-- Sums and counts over the numbers below a bound, and the list built from a function. Each goes by the highest index,
+-- as a loop that counts up puts it on.
 use Prim.Native.Nat.{ℕ, zero, suc, _+_}
 use mathlib.Core.Bool.{Bool, cond, _||_}
 use mathlib.Core.List.{List, [], _∷_, _++_}

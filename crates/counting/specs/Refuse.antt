@@ -1,4 +1,5 @@
--- Numbered refusals: an ordered list of a test and its number. The first test that holds gives the refusal, and 0 is none.
+-- Numbered refusals: an ordered list of a test and its number. The first test that holds gives the refusal, and 0 is
+-- none.
 use Prim.Native.Nat.{ℕ}
 use mathlib.Core.Bool.{Bool, cond}
 use mathlib.Core.List.{List, [], _∷_}

@@ -23,8 +23,9 @@ fn fill_part(bytes: &mut [u8], at: usize, end: usize) -> usize
     place
 }
 
-// Reads until the part of the bytes from a place to an end is full or the input ends, and gives the place behind the last byte
-// that came. What lies before and behind the part stays. Where the bytes have no such part, nothing is read.
+// Reads until the part of the bytes from a place to an end is full or the input ends, and gives the place behind the
+// last byte that came. What lies before and behind the part stays. Where the bytes have no such part, nothing is
+// read.
 pub fn fill(bytes: &mut [u8], at: usize, end: usize) -> usize
     ensures { λ r. ⌜ (at ≤ r) × (r ≤ at + (end - at)) ⌝ }
     ensures { λ r. ⌜ take at (now (bytes .exit)) ≡ take at (now (bytes .entry)) ⌝ }

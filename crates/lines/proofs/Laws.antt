@@ -1,6 +1,6 @@
--- What a line is: its numbers can be read back, have no leading 0 but in 0 itself, and are digits, 1 to 20 of them; the line stands
--- at the front of a slice that is long enough, the rest of which stays; and no second reply meets the contract.
--- Assumes nothing.
+-- What a line is: its numbers can be read back, have no leading 0 but in 0 itself, and are digits, 1 to 20 of them;
+-- the line stands at the front of a slice that is long enough, the rest of which stays; and no second reply meets the
+-- contract. Assumes nothing.
 use mathlib.Core.Path.{_≡_, refl, sym, ap, _∙_}
 use mathlib.Core.List.{List, [], _∷_, _++_}
 use mathlib.Core.Logic.{⊎-elim}
@@ -12,11 +12,19 @@ use lib.Seq.{getD-at, take-at, drop-at}
 use Rattle.counting.proofs.Count.{at-or-below}
 use Rattle.lines.specs.declared.Written.{Written}
 use Rattle.lines.specs.Line.{decimal, lineOf, placed, lineReply, lineWrites, readOn}
-use Rattle.lines.proofs.Decimal.{decimal-small, decimal-large, decimal-longer, decimal-some, decimal-20, by-tenths}
+use Rattle.lines.proofs.Decimal.{
+  decimal-small,
+  decimal-large,
+  decimal-longer,
+  decimal-some,
+  decimal-20,
+  by-tenths,
+}
 use Rattle.lines.proofs.Lines.{line-leaves, line-written}
 use Rattle.lines.proofs.Placed.{placed-length}
 
-read-last : (before : ℕ) (text : List ℕ) (byte : ℕ) → readOn before (text ++ (byte ∷ [])) ≡ readOn before text * 10 + (byte - 48)
+read-last : (before : ℕ) (text : List ℕ) (byte : ℕ) →
+    readOn before (text ++ (byte ∷ [])) ≡ readOn before text * 10 + (byte - 48)
 unfolding readOn
 read-last before [] byte = refl
 read-last before (b ∷ text) byte = read-last (before * 10 + (b - 48)) text byte

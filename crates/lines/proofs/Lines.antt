@@ -25,7 +25,8 @@ fields-turn numbers k = rw add-one refl
 
 pub fields-longer : (numbers : List ℕ) (k : ℕ) →
     length (fields numbers (k + 1)) ≡ length (fields numbers k) + length (field (getD numbers k 0))
-fields-longer numbers k = ap length (fields-turn numbers k) ∙ length-append (fields numbers k) (field (getD numbers k 0))
+fields-longer numbers k =
+    ap length (fields-turn numbers k) ∙ length-append (fields numbers k) (field (getD numbers k 0))
 
 -- more numbers are no shorter
 pub fields-more : (numbers : List ℕ) (k n : ℕ) → k ≤ n → length (fields numbers k) ≤ length (fields numbers n)
@@ -60,7 +61,8 @@ line-length word numbers =
     ∙ omega (arith, length-append word (fields numbers (length numbers)))
 
 -- a line by the digits of its numbers: the word, a space and the digits of each, the newline
-fields-size : (numbers : List ℕ) (k : ℕ) → length (fields numbers k) ≡ sum k (λ i. 1 + length (decimal (getD numbers i 0)))
+fields-size : (numbers : List ℕ) (k : ℕ) →
+    length (fields numbers k) ≡ sum k (λ i. 1 + length (decimal (getD numbers i 0)))
 unfolding fields field sum
 fields-size numbers zero = refl
 fields-size numbers (suc k) =
@@ -68,7 +70,8 @@ fields-size numbers (suc k) =
     ∙ omega (arith, fields-size numbers k)
 
 pub line-size : (word numbers : List ℕ) →
-    length (lineOf word numbers) ≡ length word + sum (length numbers) (λ i. 1 + length (decimal (getD numbers i 0))) + 1
+    length (lineOf word numbers) ≡ length word + sum (length numbers)
+    (λ i. 1 + length (decimal (getD numbers i 0))) + 1
 line-size word numbers = omega (arith, line-length word numbers, fields-size numbers (length numbers))
 
 module _ (word numbers : List ℕ) where
@@ -82,7 +85,8 @@ module _ (word numbers : List ℕ) where
   unfolding lineReply tooShort
   line-given room h = sym (cond-false _ _ (le-ltb _ _ h))
 
-  pub line-leaves : (slice : List ℕ) → length slice < length (lineOf word numbers) → lineWrites word numbers slice ≡ slice
+  pub line-leaves : (slice : List ℕ) → length slice < length (lineOf word numbers) →
+      lineWrites word numbers slice ≡ slice
   unfolding lineWrites tooShort
   line-leaves slice h = cond-true _ _ (lt-ltb _ _ h)
 

@@ -20,7 +20,8 @@ pub placed-one : (xs : List ℕ) (at b : ℕ) → at < length xs → set xs at b
 unfolding placed
 placed-one xs at b l = set-split xs at b l ∙ ap (λ (m : ℕ). take at xs ++ b ∷ drop m xs) (sym (add-one at))
 
-pub placed-length : (xs : List ℕ) (at : ℕ) (s : List ℕ) → at + length s ≤ length xs → length (placed xs at s) ≡ length xs
+pub placed-length : (xs : List ℕ) (at : ℕ) (s : List ℕ) → at + length s ≤ length xs →
+    length (placed xs at s) ≡ length xs
 unfolding placed
 placed-length xs at s l =
     length-append (take at xs) (s ++ drop (at + length s) xs)

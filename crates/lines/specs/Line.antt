@@ -1,4 +1,5 @@
--- A line of text: a word, then for each number one space and its decimal digits, then one newline. A text is a list of bytes.
+-- A line of text: a word, then for each number one space and its decimal digits, then one newline. A text is a list
+-- of bytes.
 use Prim.Native.Nat.{ℕ, zero, suc, _+_, _-_, _*_, _/_, _%_}
 use mathlib.Core.Bool.{Bool, cond}
 use mathlib.Core.List.{List, [], _∷_, _++_}
@@ -6,7 +7,8 @@ use lib.Dec.{ltb}
 use lib.ListN.{length, getD, take, drop}
 use Rattle.lines.specs.declared.Written.{Written}
 
--- the digits of n: one below 10, else those of the tenth and one more. The first number is how often a tenth may be taken
+-- the digits of n: one below 10, else those of the tenth and one more. The first number is how often a tenth may be
+-- taken
 unfoldable pub tens : ℕ → ℕ → List ℕ
 tens zero n = (48 + n) ∷ []
 tens (suc w) n = cond (ltb n 10) ((48 + n) ∷ []) (tens w (n / 10) ++ ((48 + n % 10) ∷ []))

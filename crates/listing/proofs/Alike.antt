@@ -23,9 +23,38 @@ use Rattle.run.proofs.Blind.{after-blind}
 use Rattle.runfile.specs.declared.Heading.{Heading}
 use Rattle.runfile.specs.File.{tableRow}
 use Rattle.runfile.specs.Reply.{tableTests, tableRefusal}
-use Rattle.listing.specs.File.{orElse, tableBytes, tableBegins, bytesOf, tableOf, refusedTable, heading, rowsOf, replyAfter, stateAfter, refusedStart, refusedAt, due, goesOn}
+use Rattle.listing.specs.File.{
+  orElse,
+  tableBytes,
+  tableBegins,
+  bytesOf,
+  tableOf,
+  refusedTable,
+  heading,
+  rowsOf,
+  replyAfter,
+  stateAfter,
+  refusedStart,
+  refusedAt,
+  due,
+  goesOn,
+}
 use Rattle.listing.specs.Files.{SameButSound}
-use Rattle.listing.specs.Listing.{endedBy, passed, boxLines, runLine, lastLine, doneOf, iterationLines, refusedLater, endsWith, startLine, firstLines, outcomeOf, listingOf}
+use Rattle.listing.specs.Listing.{
+  endedBy,
+  passed,
+  boxLines,
+  runLine,
+  lastLine,
+  doneOf,
+  iterationLines,
+  refusedLater,
+  endsWith,
+  startLine,
+  firstLines,
+  outcomeOf,
+  listingOf,
+}
 use Rattle.listing.proofs.Heading.{heading-good, start-state}
 use Rattle.listing.proofs.Iterations.{passed-most}
 use Rattle.listing.proofs.Whole.{early-outcome, early-lines}

@@ -1,5 +1,5 @@
--- What is promised of a file, said of calls: of every reply of `outcome`, and every reply of `list` with the last contents
--- of the slice, that meets the function's contract as the toolchain states it. Assumes nothing.
+-- What is promised of a file, said of calls: of every reply of `outcome`, and every reply of `list` with the last
+-- contents of the slice, that meets the function's contract as the toolchain states it. Assumes nothing.
 use mathlib.Core.Path.{_≡_, sym, ap, ap₂, _∙_, subst}
 use mathlib.Core.Bool.{cond}
 use mathlib.Core.List.{List}
@@ -65,7 +65,8 @@ module _ (a b : List ℕ) (same : SameButSound a b) where
   writes-same : (slice : List ℕ) → listWrites a slice ≡ listWrites b slice
   unfolding listWrites
   writes-same slice =
-      ap (λ (text : List ℕ). cond (ltb (length slice) (length text)) slice (placed slice 0 text)) (listing-blind a b same)
+      ap (λ (text : List ℕ). cond (ltb (length slice) (length text)) slice (placed slice 0 text))
+      (listing-blind a b same)
 
 -- and they have one listing
 pub calls-list-blind : {a b slice last-a last-b : List ℕ} {p q : Listed} → SameButSound a b →

@@ -18,7 +18,15 @@ use Rattle.run.proofs.Accepted.{start-accepted-is}
 use Rattle.runfile.specs.declared.Heading.{Heading}
 use Rattle.runfile.specs.File.{nOf, headingBytes, headingRow}
 use Rattle.runfile.specs.Reply.{headingRefusal, headingOf, headingWrites}
-use Rattle.runfile.proofs.Laws.{Readable, heading-readable, heading-given, heading-written, heading-number, heading-tolerates, heading-startable}
+use Rattle.runfile.proofs.Laws.{
+  Readable,
+  heading-readable,
+  heading-given,
+  heading-written,
+  heading-number,
+  heading-tolerates,
+  heading-startable,
+}
 use Rattle.listing.specs.File.{orElse, heading, rowsOf, replyAfter, stateAfter, refusedStart}
 
 -- the first of two refusals
@@ -84,7 +92,8 @@ module _ (bytes : List ℕ) (ok : heading bytes .refusal ≡ 0) where
   heading-whole = rw n-is (taken .whole)
 
   -- a start over what was read and written is the first reply
-  pub start-reply : (h : Heading) (rows : List ℕ) (r : Next) → h ≡ heading bytes → rows ≡ headingWrites bytes thirteen →
+  pub start-reply : (h : Heading) (rows : List ℕ) (r : Next) → h ≡ heading bytes →
+      rows ≡ headingWrites bytes thirteen →
       r ≡ startReply (h .n) (h .t) (h .faulty) (take (h .n) rows) → r ≡ replyAfter bytes 0
   unfolding replyAfter after
   start-reply h rows r eh er e =

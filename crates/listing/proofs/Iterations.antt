@@ -19,10 +19,39 @@ use Rattle.run.specs.declared.Next.{Next}
 use Rattle.run.specs.Iteration.{nextRun}
 use Rattle.run.specs.State.{iterateRefusal, iterateReply, after}
 use Rattle.runfile.specs.Reply.{tableRefusal}
-use Rattle.listing.specs.File.{tableBytes, tableBegins, bytesOf, tableOf, refusedTable, heading, replyAfter, stateAfter, refusedStart, refusedAt, due, goesOn}
+use Rattle.listing.specs.File.{
+  tableBytes,
+  tableBegins,
+  bytesOf,
+  tableOf,
+  refusedTable,
+  heading,
+  replyAfter,
+  stateAfter,
+  refusedStart,
+  refusedAt,
+  due,
+  goesOn,
+}
 use Rattle.listing.specs.Inside.{Underway, Advanced, Started}
-use Rattle.listing.specs.Listing.{endedBy, passed, boxLines, iterationLines, doneOf, refusedLater, endsWith, outcomeOf}
-use Rattle.listing.proofs.Heading.{first-passed, none-refused, heading-good, heading-low, heading-high, heading-few}
+use Rattle.listing.specs.Listing.{
+  endedBy,
+  passed,
+  boxLines,
+  iterationLines,
+  doneOf,
+  refusedLater,
+  endsWith,
+  outcomeOf,
+}
+use Rattle.listing.proofs.Heading.{
+  first-passed,
+  none-refused,
+  heading-good,
+  heading-low,
+  heading-high,
+  heading-few,
+}
 use Rattle.listing.proofs.Table.{table-short}
 
 -- the first of many that is refused

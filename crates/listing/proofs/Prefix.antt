@@ -18,11 +18,32 @@ use Rattle.counting.proofs.Build.{build-ext}
 use Rattle.sizes.specs.Sizes.{outside, tableRows}
 use Rattle.sizes.proofs.Laws.{inside-high, table-le}
 use Rattle.runfile.specs.declared.Heading.{Heading}
-use Rattle.runfile.specs.File.{number, marked, versionOf, nOf, tByte, faultyOf, headingBytes, rowFrom, headingRow, tableRow}
+use Rattle.runfile.specs.File.{
+  number,
+  marked,
+  versionOf,
+  nOf,
+  tByte,
+  faultyOf,
+  headingBytes,
+  rowFrom,
+  headingRow,
+  tableRow,
+}
 use Rattle.runfile.specs.Reply.{headingTests, headingRefusal, headingOf, nothingRead, headingReply, tableRefusal}
 use Rattle.runfile.proofs.Laws.{heading-number}
 use Rattle.gradecast.specs.Lies.{SameLies}
-use Rattle.listing.specs.File.{tableBytes, tableBegins, bytesOf, tableOf, heading, rowsOf, refusedStart, due, goesOn}
+use Rattle.listing.specs.File.{
+  tableBytes,
+  tableBegins,
+  bytesOf,
+  tableOf,
+  heading,
+  rowsOf,
+  refusedStart,
+  due,
+  goesOn,
+}
 use Rattle.listing.specs.Files.{enough}
 use Rattle.listing.specs.Listing.{outcomeOf, listingOf}
 use Rattle.listing.proofs.Heading.{heading-good, heading-high, heading-few}

@@ -35,9 +35,52 @@ use Rattle.runfile.proofs.Laws.{heading-number}
 use Rattle.lines.specs.Line.{lineOf}
 use Rattle.lines.proofs.Decimal.{decimal-most, decimal-20}
 use Rattle.lines.proofs.Lines.{line-size}
-use Rattle.listing.specs.File.{orElse, tableBytes, tableBegins, bytesOf, tableOf, refusedTable, heading, rowsOf, replyAfter, stateAfter, refusedStart, refusedAt, due, goesOn}
-use Rattle.listing.specs.Listing.{run-word, at-word, sent-word, refused-word, runLine, atLine, lastLine, boxLine, boxLines, endedBy, passed, doneOf, iterationLines, refusedLater, endsWith, startLine, firstLines, outcomeOf, listingOf, listReply}
-use Rattle.listing.proofs.Heading.{none-refused, heading-good, heading-high, heading-few, heading-starts, start-state}
+use Rattle.listing.specs.File.{
+  orElse,
+  tableBytes,
+  tableBegins,
+  bytesOf,
+  tableOf,
+  refusedTable,
+  heading,
+  rowsOf,
+  replyAfter,
+  stateAfter,
+  refusedStart,
+  refusedAt,
+  due,
+  goesOn,
+}
+use Rattle.listing.specs.Listing.{
+  run-word,
+  at-word,
+  sent-word,
+  refused-word,
+  runLine,
+  atLine,
+  lastLine,
+  boxLine,
+  boxLines,
+  endedBy,
+  passed,
+  doneOf,
+  iterationLines,
+  refusedLater,
+  endsWith,
+  startLine,
+  firstLines,
+  outcomeOf,
+  listingOf,
+  listReply,
+}
+use Rattle.listing.proofs.Heading.{
+  none-refused,
+  heading-good,
+  heading-high,
+  heading-few,
+  heading-starts,
+  start-state,
+}
 use Rattle.listing.proofs.Iterations.{passed-most, iterate-next}
 use Rattle.listing.proofs.Whole.{early-lines}
 

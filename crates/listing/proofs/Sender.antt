@@ -65,7 +65,8 @@ module _ {n : ℕ} (few : n ≤ 13) (from count : ℕ) (bytes table last : List 
 pub keeps-trans : {bytes a b c : List ℕ} → Keeps bytes a b → Keeps bytes b c → Keeps bytes a c
 keeps-trans x y = record { long = y .long ∙ x .long; held = λ p h. y .held p (x .held p h) }
 
-pub taken-kept : {n sender : ℕ} {bytes a b : List ℕ} → Keeps bytes a b → Taken n bytes a sender → Taken n bytes b sender
+pub taken-kept : {n sender : ℕ} {bytes a b : List ℕ} → Keeps bytes a b → Taken n bytes a sender →
+    Taken n bytes b sender
 taken-kept k t =
     record {
       step1 = λ r hr. k .held _ (t .step1 r hr);

@@ -22,10 +22,39 @@ use Rattle.agreement.specs.Demand.{Setting}
 use Rattle.agreement.proofs.Agreement.{replies-keep}
 use Rattle.runfile.specs.File.{tableRow}
 use Rattle.lines.specs.Line.{lineOf}
-use Rattle.listing.specs.File.{heading, rowsOf, bytesOf, tableOf, replyAfter, stateAfter, refusedStart, refusedAt, due}
+use Rattle.listing.specs.File.{
+  heading,
+  rowsOf,
+  bytesOf,
+  tableOf,
+  replyAfter,
+  stateAfter,
+  refusedStart,
+  refusedAt,
+  due,
+}
 use Rattle.listing.specs.Files.{Demand3Of}
-use Rattle.listing.specs.Listing.{sent-word, refused-word, lastLine, endedBy, passed, doneOf, refusedLater, endsWith, firstLines, outcomeOf, listingOf}
-use Rattle.listing.proofs.Heading.{none-refused, heading-good, heading-low, heading-high, heading-few, heading-starts}
+use Rattle.listing.specs.Listing.{
+  sent-word,
+  refused-word,
+  lastLine,
+  endedBy,
+  passed,
+  doneOf,
+  refusedLater,
+  endsWith,
+  firstLines,
+  outcomeOf,
+  listingOf,
+}
+use Rattle.listing.proofs.Heading.{
+  none-refused,
+  heading-good,
+  heading-low,
+  heading-high,
+  heading-few,
+  heading-starts,
+}
 use Rattle.listing.proofs.Iterations.{passed-turn, passed-stops}
 
 not-zero : (row : ℕ) → (row ≡ 0 → ⊥) → 1 ≤ row

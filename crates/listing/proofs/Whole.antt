@@ -18,8 +18,29 @@ use Rattle.run.specs.State.{startRun, zeros}
 use Rattle.lines.specs.Line.{placed}
 use Rattle.listing.specs.File.{tableBegins, heading, rowsOf, stateAfter, refusedStart}
 use Rattle.listing.specs.Inside.{Put, Started}
-use Rattle.listing.specs.Listing.{runLine, lastLine, endedBy, doneOf, iterationLines, endsWith, startLine, firstLines, outcomeOf, listingOf, listReply, listWrites}
-use Rattle.listing.proofs.Heading.{first-refused, heading-good, heading-low, heading-high, heading-few, heading-whole, start-state}
+use Rattle.listing.specs.Listing.{
+  runLine,
+  lastLine,
+  endedBy,
+  doneOf,
+  iterationLines,
+  endsWith,
+  startLine,
+  firstLines,
+  outcomeOf,
+  listingOf,
+  listReply,
+  listWrites,
+}
+use Rattle.listing.proofs.Heading.{
+  first-refused,
+  heading-good,
+  heading-low,
+  heading-high,
+  heading-few,
+  heading-whole,
+  start-state,
+}
 
 -- a refusal brings zeros, whatever the state
 ended-zeros : (refusal : ℕ) (s q : Run) → (refusal ≡ 0 → ⊥) → endedBy refusal s ≡ endedBy refusal q

@@ -22,8 +22,8 @@ pub record SameButSound (a b : List ℕ) : Type 0 where
   pub same-lies : (m : ℕ) → m < due a →
       SameLies (heading a .n) (heading a .faulty) (tableOf (heading a .n) a m) (tableOf (heading a .n) b m)
 
--- demand 3 of a file: in the outcome's state s all sound boxes hold the same row, a common start stays, and no sound box
--- is on a sound box's list
+-- demand 3 of a file: in the outcome's state s all sound boxes hold the same row, a common start stays, and no sound
+-- box is on a sound box's list
 pub record Demand3Of (bytes : List ℕ) (s : Run) : Type 0 where
   pub agrees : SameRow (heading bytes .n) (heading bytes .faulty) (s .rows)
   pub valid : (v : ℕ) → AllHold (heading bytes .n) (heading bytes .faulty) (rowsOf bytes) v →

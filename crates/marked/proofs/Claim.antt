@@ -1,6 +1,5 @@
--- The one claim over the marked cases: the definitions compute to what the document prints; and for every slice of rows
--- confidence 1 never arises when t is 0.
--- Assumes nothing.
+-- The one claim over the marked cases: the definitions compute to what the document prints; and for every slice of
+-- rows confidence 1 never arises when t is 0. Assumes nothing.
 use mathlib.Core.Path.{_≡_, refl}
 use mathlib.Core.Bool.{Bool, true, false, cond}
 use mathlib.Core.List.{List}
@@ -13,18 +12,107 @@ use Rattle.counting.specs.Sets.{member, setOf}
 use Rattle.counting.specs.Most.{places, support, before, best, most}
 use Rattle.counting.specs.Refuse.{firstOf}
 use Rattle.sizes.specs.Sizes.{outside, tooMany, stray, sizeRefusal, sound, soundZero, tableRows}
-use Rattle.tally.specs.Tally.{carried, voteOf, twoRows, supportOf, confidenceAt, confidenceOf, gradedRow, counted, chosenRow}
+use Rattle.tally.specs.Tally.{
+  carried,
+  voteOf,
+  twoRows,
+  supportOf,
+  confidenceAt,
+  confidenceOf,
+  gradedRow,
+  counted,
+  chosenRow,
+}
 use Rattle.tally.specs.Reply.{voteRefusal, unless, voteReply, gradeReply}
 use Rattle.tally.proofs.Laws.{never-1}
-use Rattle.gradecast.specs.Steps.{place1, placeFrom, place2, place3, sends, hears, heard1, heard2, column2, voted, heard3, column3, confidence, gradeRow, sentTo, messages}
+use Rattle.gradecast.specs.Steps.{
+  place1,
+  placeFrom,
+  place2,
+  place3,
+  sends,
+  hears,
+  heard1,
+  heard2,
+  column2,
+  voted,
+  heard3,
+  column3,
+  confidence,
+  gradeRow,
+  sentTo,
+  messages,
+}
 use Rattle.run.specs.Iteration.{entry, gradedRows, confidences, newRow, newList, nextRun}
-use Rattle.run.specs.State.{startRow, startRefusal, startRun, startReply, badEntry, badPlace, tooManySent, iterateRefusal, iterateReply, after}
+use Rattle.run.specs.State.{
+  startRow,
+  startRefusal,
+  startRun,
+  startReply,
+  badEntry,
+  badPlace,
+  tooManySent,
+  iterateRefusal,
+  iterateReply,
+  after,
+}
 use Rattle.sizes.specs.Sizes.{largestT}
-use Rattle.runfile.specs.File.{number, marked as is-marked, versionOf, nOf, tByte, faultyOf, tOf, headingBytes, rowFrom, headingRow, tableRow}
-use Rattle.runfile.specs.Reply.{headingTests, headingRefusal, headingOf, nothingRead, headingReply, tableTests, tableRefusal}
+use Rattle.runfile.specs.File.{
+  number,
+  marked as is-marked,
+  versionOf,
+  nOf,
+  tByte,
+  faultyOf,
+  tOf,
+  headingBytes,
+  rowFrom,
+  headingRow,
+  tableRow,
+}
+use Rattle.runfile.specs.Reply.{
+  headingTests,
+  headingRefusal,
+  headingOf,
+  nothingRead,
+  headingReply,
+  tableTests,
+  tableRefusal,
+}
 use Rattle.lines.specs.Line.{tens, decimal, field, fields, lineOf}
-use Rattle.listing.specs.File.{orElse, tableBytes, tableBegins, bytesOf, tableOf, refusedTable, heading, rowsOf, replyAfter, stateAfter, refusedStart, refusedAt, due, goesOn}
-use Rattle.listing.specs.Listing.{runLine, atLine, lastLine, boxLine, boxLines, endedBy, passed, doneOf, iterationLines, refusedLater, endsWith, startLine, firstLines, outcomeOf, listingOf}
+use Rattle.listing.specs.File.{
+  orElse,
+  tableBytes,
+  tableBegins,
+  bytesOf,
+  tableOf,
+  refusedTable,
+  heading,
+  rowsOf,
+  replyAfter,
+  stateAfter,
+  refusedStart,
+  refusedAt,
+  due,
+  goesOn,
+}
+use Rattle.listing.specs.Listing.{
+  runLine,
+  atLine,
+  lastLine,
+  boxLine,
+  boxLines,
+  endedBy,
+  passed,
+  doneOf,
+  iterationLines,
+  refusedLater,
+  endsWith,
+  startLine,
+  firstLines,
+  outcomeOf,
+  listingOf,
+}
 use Rattle.run.specs.State.{zeros}
 use Rattle.marked.specs.Cases.{Hold, marked}
 
@@ -54,5 +142,6 @@ unfolding sum count any build find member setOf places support before best most 
     refusedStart refusedAt due goesOn runLine atLine lastLine boxLine boxLines endedBy passed doneOf iterationLines
     refusedLater endsWith startLine firstLines outcomeOf listingOf zeros
 marked-hold =
-    refl ⨾ refl ⨾ refl ⨾ refl ⨾ refl ⨾ refl ⨾ refl ⨾ refl ⨾ refl ⨾ refl ⨾ refl ⨾ refl ⨾ refl ⨾ refl ⨾ refl ⨾ refl ⨾ refl ⨾
+    refl ⨾ refl ⨾ refl ⨾ refl ⨾ refl ⨾ refl ⨾ refl ⨾ refl ⨾ refl ⨾ refl ⨾ refl ⨾ refl ⨾ refl ⨾ refl ⨾ refl ⨾ refl ⨾
+    refl ⨾
     never-confidence-1 ⨾ refl ⨾ refl ⨾ tt

@@ -1,5 +1,5 @@
--- None of the five worthless builds meets the contracts, as the toolchain states them: at case S, or at a marked vote or
--- grade, its reply is not the one that the contract admits. Two of them break demand 3 as well. Assumes nothing.
+-- None of the five worthless builds meets the contracts, as the toolchain states them: at case S, or at a marked vote
+-- or grade, its reply is not the one that the contract admits. Two of them break demand 3 as well. Assumes nothing.
 use mathlib.Core.Path.{_≡_, refl, sym, ap, _∙_}
 use mathlib.Core.List.{List, [], _∷_}
 use Prim.Native.Nat.{ℕ, zero, suc, _+_}

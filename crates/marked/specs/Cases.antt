@@ -1,5 +1,5 @@
--- The marked cases of document 01, "Both sides of each threshold", as one list: what the definitions give, and the numbers
--- that the document prints. Boxes count from 0 here.
+-- The marked cases of document 01, "Both sides of each threshold", as one list: what the definitions give, and the
+-- numbers that the document prints. Boxes count from 0 here.
 use Prim.Native.Nat.{ℕ, zero, suc}
 use mathlib.Core.Path.{_≡_}
 use mathlib.Core.List.{List, [], _∷_, _++_}
@@ -35,8 +35,8 @@ graded s table i k =
     confidence (s .n) (s .t) (s .faulty) (s .rows) (s .lists) table i k ∷
     []
 
--- case S: box 4 sends, all for leader 4, in step 1 20 to boxes 1 and 2 and 99 to box 3, in step 2 20 to box 1 and 99 to box 2,
--- in step 3 20 to box 2
+-- case S: box 4 sends, all for leader 4, in step 1 20 to boxes 1 and 2 and 99 to box 3, in step 2 20 to box 1 and 99
+-- to box 2, in step 3 20 to box 2
 abbrev pub liesOfS : List ℕ
 liesOfS =
     set
@@ -71,8 +71,8 @@ fileOfS =
     72 ∷ 78 ∷ 66 ∷ 0 ∷ 1 ∷ 4 ∷ 1 ∷ 0 ∷ 8 ∷
     inBytes rowsOfS ++ (inBytes liesOfS ++ inBytes (silent 4))
 
--- the eight lines of case S, as the document prints them: run 4 1 8; at 1 1 10 8; at 1 2 20 8; at 1 3 10 8; at 2 1 10 8;
--- at 2 2 10 8; at 2 3 10 8; sent 184
+-- the eight lines of case S, as the document prints them: run 4 1 8; at 1 1 10 8; at 1 2 20 8; at 1 3 10 8; at 2 1 10
+-- 8; at 2 2 10 8; at 2 3 10 8; sent 184
 abbrev pub linesOfS : List ℕ
 linesOfS =
     114 ∷ 117 ∷ 110 ∷ 32 ∷ 52 ∷ 32 ∷ 49 ∷ 32 ∷ 56 ∷ 10 ∷

@@ -1,5 +1,5 @@
-// Answers the requests of docs/REQUESTS.md: calls each public function of the library on any numbers and any bytes, and prints
-// every field of its reply and every place of what was lent to it. Each line goes out in one write.
+// Answers the requests of docs/REQUESTS.md: calls each public function of the library on any numbers and any bytes,
+// and prints every field of its reply and every place of what was lent to it. Each line goes out in one write.
 use run::Next;
 use run::Run;
 ghost use mathlib.Core.Path.{_≡_};
@@ -369,7 +369,8 @@ fn answer(bytes: &mut [u8], numbers: &mut [u64], text: &mut [u8]) -> bool
     }
 }
 
-// A proved loop has to end, and nothing says that a stream does: it counts its turns down from a number that no run uses up.
+// A proved loop has to end, and nothing says that a stream does: it counts its turns down from a number that no run
+// uses up.
 fn answer_all(bytes: &mut [u8], numbers: &mut [u64], text: &mut [u8])
     requires { ⌜ (length (now bytes) ≡ 65536) × (length (now numbers) ≡ 5001) ⌝ }
 {

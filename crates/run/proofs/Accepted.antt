@@ -1,6 +1,5 @@
--- A start and an iteration are accepted exactly where each of their tests fails: the refusal is the number of the first test
--- that holds, and no number is 0.
--- Assumes nothing.
+-- A start and an iteration are accepted exactly where each of their tests fails: the refusal is the number of the
+-- first test that holds, and no number is 0. Assumes nothing.
 use mathlib.Core.Path.{_≡_, refl}
 use mathlib.Core.Bool.{false, not, _||_}
 use mathlib.Core.List.{List}

@@ -1,8 +1,7 @@
--- What is never read: the rows of faulty boxes at a start, and a table's entries in sound senders' places.
--- Entries of the table in a sound sender's place are never read. Two tables that differ only there give the same grades and
--- messages, so the same rows and lists, and where they are equally long the same refusal; and so a whole run of such tables,
--- since n and the faulty set stay.
--- Assumes nothing.
+-- What is never read: the rows of faulty boxes at a start, and a table's entries in sound senders' places. Entries of
+-- the table in a sound sender's place are never read. Two tables that differ only there give the same grades and
+-- messages, so the same rows and lists, and where they are equally long the same refusal; and so a whole run of such
+-- tables, since n and the faulty set stay. Assumes nothing.
 use mathlib.Core.Path.{_≡_, refl, sym, ap, ap₂, _∙_, subst₂}
 use mathlib.Core.Bool.{Bool, true, false, cond, _&&_, _||_}
 use mathlib.Core.List.{List}
@@ -25,7 +24,16 @@ use Rattle.gradecast.proofs.Blind.{confidence-same, grade-row-same, messages-sa
 use Rattle.run.specs.declared.Run.{Run}
 use Rattle.run.specs.declared.Next.{Next}
 use Rattle.run.specs.Iteration.{gradedRows, confidences, newRow, newList, entry, nextRun}
-use Rattle.run.specs.State.{startRefusal, startRow, startRun, startReply, zeros, iterateRefusal, iterateReply, after}
+use Rattle.run.specs.State.{
+  startRefusal,
+  startRow,
+  startRun,
+  startReply,
+  zeros,
+  iterateRefusal,
+  iterateReply,
+  after,
+}
 
 -- the places of a state agree where those of the sound boxes do
 places-same : (n faulty : ℕ) (f g : ℕ → ℕ) → ((i : ℕ) → SoundBox n faulty i → f i ≡ g i) →
@@ -99,7 +107,8 @@ module _ (s : Run) (a b : List ℕ) (same : SameLies (s .n) (s .faulty) a b) whe
   new-list-same : (i : ℕ) → i < s .n → newList s a i ≡ newList s b i
   unfolding newList
   new-list-same i l =
-      ap (λ (cs : List ℕ). setOf (s .n) (λ k. member (getD (s .lists) i 0) k || ltb (getD cs k 0) 2)) (confidences-same i l)
+      ap (λ (cs : List ℕ). setOf (s .n) (λ k. member (getD (s .lists) i 0) k || ltb (getD cs k 0) 2))
+      (confidences-same i l)
 
   next-same : nextRun s a ≡ nextRun s b
   unfolding nextRun
@@ -123,10 +132,12 @@ module _ (s : Run) (a b : List ℕ) (same : SameLies (s .n) (s .faulty) a b) whe
   pub iterate-blind : length a ≡ length b → iterateReply s a ≡ iterateReply s b
   unfolding iterateReply
   iterate-blind e =
-      ap₂ (λ (refusal : ℕ) (next : Run). record { refusal = refusal; run = cond (eqb refusal 0) next s }) (refusal-same e) next-same
+      ap₂ (λ (refusal : ℕ) (next : Run). record { refusal = refusal; run = cond (eqb refusal 0) next s })
+      (refusal-same e) next-same
 
 -- a run keeps n and the faulty set
-kept : (s : Run) (table : List ℕ) → (iterateReply s table .run .n ≡ s .n) × (iterateReply s table .run .faulty ≡ s .faulty)
+kept : (s : Run) (table : List ℕ) →
+    (iterateReply s table .run .n ≡ s .n) × (iterateReply s table .run .faulty ≡ s .faulty)
 unfolding iterateReply nextRun
 kept s table = go (eqb (iterateRefusal s table) 0)
   where

@@ -1,7 +1,6 @@
--- A run made of calls: the contracts of `start` and `iterate`, as the toolchain states them, of one reply after another.
--- Each reply is then the one that the definitions give, so that what is proved of those holds of every run that is made
--- by calls. A contract that said less of its reply would not do.
--- Assumes nothing.
+-- A run made of calls: the contracts of `start` and `iterate`, as the toolchain states them, of one reply after
+-- another. Each reply is then the one that the definitions give, so that what is proved of those holds of every run
+-- that is made by calls. A contract that said less of its reply would not do. Assumes nothing.
 use mathlib.Core.Path.{_≡_, sym, ap, _∙_, subst}
 use mathlib.Core.Bool.{Bool, true, false, cond}
 use mathlib.Core.List.{List}
@@ -55,7 +54,8 @@ started-lies : (n t faulty : ℕ) (rows a b : List ℕ) → SameLies n faulty a 
 unfolding startReply startRun zeros
 started-lies n t faulty rows a b same = go (eqb (startRefusal n t faulty rows) 0)
   where
-    go : (c : Bool) → SameLies (cond c (startRun n t faulty rows) zeros .n) (cond c (startRun n t faulty rows) zeros .faulty) a b
+    go : (c : Bool) →
+        SameLies (cond c (startRun n t faulty rows) zeros .n) (cond c (startRun n t faulty rows) zeros .faulty) a b
     go true = same
     go false =
         record {

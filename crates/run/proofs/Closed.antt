@@ -1,7 +1,6 @@
--- What a start or an iteration gives without refusal is never refused by 4, 5, 6, 9 or 14: n, t and the faulty set stay; a
--- sound box's new row is a row that was chosen, or its old row; a new list is a set of boxes below n; every other place
--- is 0; and one iteration adds at most the table's rows to the messages.
--- Assumes nothing.
+-- What a start or an iteration gives without refusal is never refused by 4, 5, 6, 9 or 14: n, t and the faulty set
+-- stay; a sound box's new row is a row that was chosen, or its old row; a new list is a set of boxes below n; every
+-- other place is 0; and one iteration adds at most the table's rows to the messages. Assumes nothing.
 use mathlib.Core.Path.{_≡_, refl, sym, _∙_, subst}
 use mathlib.Core.Bool.{Bool, true, false, cond, not, _&&_, _||_}
 use mathlib.Core.List.{List}
@@ -24,9 +23,27 @@ use Rattle.gradecast.proofs.Boxes.{is-box, box-is}
 use Rattle.gradecast.proofs.Messages.{messages-bound}
 use Rattle.run.specs.declared.Run.{Run}
 use Rattle.run.specs.Iteration.{confidences, newList, nextRun}
-use Rattle.run.specs.State.{badEntry, startRefusal, startRun, startReply, zeros, badPlace, tooManySent, iterateRefusal, iterateReply}
+use Rattle.run.specs.State.{
+  badEntry,
+  startRefusal,
+  startRun,
+  startReply,
+  zeros,
+  badPlace,
+  tooManySent,
+  iterateRefusal,
+  iterateReply,
+}
 use Rattle.run.specs.Legal.{Legal}
-use Rattle.run.proofs.Kept.{start-row, start-list, start-unused, next-row, next-list, next-unused, new-row-not-zero}
+use Rattle.run.proofs.Kept.{
+  start-row,
+  start-list,
+  start-unused,
+  next-row,
+  next-list,
+  next-unused,
+  new-row-not-zero,
+}
 use Rattle.run.proofs.Accepted.{is-accepted, is-start-accepted, rows-not-zero, not-zero-rows}
 
 -- refusal 14: what a place must hold
@@ -37,11 +54,13 @@ unfolding badPlace badEntry
 good-place s k inner outer = go (ltb k (s .n) && sound (s .faulty) k) refl
   where
     go : (b : Bool) → (ltb k (s .n) && sound (s .faulty) k) ≡ b →
-        cond b (stray (s .n) (getD (s .lists) k 0)) (not (eqb (getD (s .rows) k 0) 0) || not (eqb (getD (s .lists) k 0) 0)) ≡ false
+        cond b (stray (s .n) (getD (s .lists) k 0))
+        (not (eqb (getD (s .rows) k 0) 0) || not (eqb (getD (s .lists) k 0) 0)) ≡ false
     go true e = lt-within (s .n) (getD (s .lists) k 0) (inner (box-is (s .n) (s .faulty) k e))
     go false e =
         let z = outer (λ b. never (is-box b) e) in
-        or-none (not-of-true (eq-eqb (getD (s .rows) k 0) 0 (z .0))) (not-of-true (eq-eqb (getD (s .lists) k 0) 0 (z .1)))
+        or-none (not-of-true (eq-eqb (getD (s .rows) k 0) 0 (z .0)))
+        (not-of-true (eq-eqb (getD (s .lists) k 0) 0 (z .1)))
 
 -- the state after an iteration that was not refused
 module _ (s : Run) (table : List ℕ) (legal : Legal s) where
@@ -63,7 +82,8 @@ module _ (s : Run) (table : List ℕ) (legal : Legal s) where
   next-sent : tooManySent (nextRun s table) ≡ false
   unfolding tooManySent nextRun
   next-sent =
-      le-ltb ((s .done + 1) * tableRows (s .n)) (s .sent + messages (s .n) (s .t) (s .faulty) (s .rows) (s .lists) table)
+      le-ltb ((s .done + 1) * tableRows (s .n))
+      (s .sent + messages (s .n) (s .t) (s .faulty) (s .rows) (s .lists) table)
       (omega (
         arith,
         add-mul (s .done) 1 (tableRows (s .n)),

@@ -30,6 +30,7 @@ module _ (n faulty k : ℕ) where
   unfolding badEntry
   bad-box row list h = sym (cond-true (stray n list) (not (eqb row 0) || not (eqb list 0)) h)
 
-  pub bad-none : (row list : ℕ) → ltb k n && sound faulty k ≡ false → not (eqb row 0) || not (eqb list 0) ≡ badEntry n faulty k row list
+  pub bad-none : (row list : ℕ) → ltb k n && sound faulty k ≡ false →
+      not (eqb row 0) || not (eqb list 0) ≡ badEntry n faulty k row list
   unfolding badEntry
   bad-none row list h = sym (cond-false (stray n list) (not (eqb row 0) || not (eqb list 0)) h)

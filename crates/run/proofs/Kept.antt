@@ -1,7 +1,6 @@
--- The places of a start, and of the next state. A sound box's place holds its row and its list, every other place 0. A new row
--- is a row that was chosen or the old row, so it is not 0 where the old row was not. A new list holds the old members and the
--- leaders with confidence 0 or 1.
--- Assumes nothing.
+-- The places of a start, and of the next state. A sound box's place holds its row and its list, every other place 0.
+-- A new row is a row that was chosen or the old row, so it is not 0 where the old row was not. A new list holds the
+-- old members and the leaders with confidence 0 or 1. Assumes nothing.
 use mathlib.Core.Path.{_≡_, refl, sym, ap, _∙_}
 use mathlib.Core.Bool.{Bool, true, false, cond, _||_}
 use mathlib.Core.List.{List}
@@ -36,25 +35,29 @@ module _ (n t faulty : ℕ) (rows : List ℕ) where
 
   pub start-unused : (k : ℕ) → k < 13 → (SoundBox n faulty k → ⊥) → getD (startRun n t faulty rows .rows) k 0 ≡ 0
   unfolding startRun startRow entry
-  start-unused k l h = getD-build 13 (startRow n faulty rows) k 0 l ∙ cond-false (getD rows k 0) 0 (no-box n faulty k h)
+  start-unused k l h =
+      getD-build 13 (startRow n faulty rows) k 0 l ∙ cond-false (getD rows k 0) 0 (no-box n faulty k h)
 
   pub start-list : (k : ℕ) → k < 13 → getD (startRun n t faulty rows .lists) k 0 ≡ 0
   unfolding startRun
   start-list k l = getD-replicate 13 k 0 0 l
 
 module _ (s : Run) (table : List ℕ) where
-  placed : (f : ℕ → ℕ) (k : ℕ) → s .n ≤ 13 → SoundBox (s .n) (s .faulty) k → getD (build 13 (entry (s .n) (s .faulty) f)) k 0 ≡ f k
+  placed : (f : ℕ → ℕ) (k : ℕ) → s .n ≤ 13 → SoundBox (s .n) (s .faulty) k →
+      getD (build 13 (entry (s .n) (s .faulty) f)) k 0 ≡ f k
   unfolding entry
   placed f k h b =
       let l = b .below in
       getD-build 13 (entry (s .n) (s .faulty) f) k 0 (omega arith)
       ∙ cond-true (f k) 0 (is-box b)
 
-  pub next-row : (k : ℕ) → s .n ≤ 13 → SoundBox (s .n) (s .faulty) k → getD (nextRun s table .rows) k 0 ≡ newRow s table k
+  pub next-row : (k : ℕ) → s .n ≤ 13 → SoundBox (s .n) (s .faulty) k →
+      getD (nextRun s table .rows) k 0 ≡ newRow s table k
   unfolding nextRun
   next-row = placed (newRow s table)
 
-  pub next-list : (k : ℕ) → s .n ≤ 13 → SoundBox (s .n) (s .faulty) k → getD (nextRun s table .lists) k 0 ≡ newList s table k
+  pub next-list : (k : ℕ) → s .n ≤ 13 → SoundBox (s .n) (s .faulty) k →
+      getD (nextRun s table .lists) k 0 ≡ newList s table k
   unfolding nextRun
   next-list = placed (newList s table)
 
@@ -74,7 +77,8 @@ module _ (s : Run) (table : List ℕ) where
       chosen-all (gradedRows s table i) (confidences s table i)
       (λ k l e.
       let b : k < s .n = omega (arith, length-build (s .n) row) in
-      getD-build (s .n) row k 0 b ∙ row-none (s .n) (s .t) (s .faulty) (s .rows) (s .lists) table i k (sym (getD-build (s .n) sure k 0 b) ∙ e))
+      getD-build (s .n) row k 0 b
+      ∙ row-none (s .n) (s .t) (s .faulty) (s .rows) (s .lists) table i k (sym (getD-build (s .n) sure k 0 b) ∙ e))
     where
       row : ℕ → ℕ
       row k = gradeRow (s .n) (s .t) (s .faulty) (s .rows) (s .lists) table i k
@@ -102,7 +106,8 @@ module _ (s : Run) (table : List ℕ) where
       (getD-build (s .n) (λ j. confidence (s .n) (s .t) (s .faulty) (s .rows) (s .lists) table i j) k 0 l)
 
   -- nothing leaves a list
-  pub list-kept : (i k : ℕ) → s .n ≤ 13 → SoundBox (s .n) (s .faulty) i → k < s .n → member (getD (s .lists) i 0) k ≡ true →
+  pub list-kept : (i k : ℕ) → s .n ≤ 13 → SoundBox (s .n) (s .faulty) i → k < s .n →
+      member (getD (s .lists) i 0) k ≡ true →
       member (getD (nextRun s table .lists) i 0) k ≡ true
   list-kept i k h b l m =
       ap (λ (list : ℕ). member list k) (next-list i h b)

@@ -1,6 +1,5 @@
--- Step 5 reads box i's part of the 169 places, from i * n to i * n + n: it is the list of the leaders' rows, or confidences, that
--- the document gives box i.
--- Assumes nothing.
+-- Step 5 reads box i's part of the 169 places, from i * n to i * n + n: it is the list of the leaders' rows, or
+-- confidences, that the document gives box i. Assumes nothing.
 use mathlib.Core.Path.{_≡_, sym, ap, ap₂, _∙_, subst}
 use mathlib.Core.Bool.{false, _||_}
 use mathlib.Core.List.{List}
@@ -26,17 +25,21 @@ use Rattle.run.specs.declared.Run.{Run}
 use Rattle.run.specs.Grades.{GradesOf, Working, listFrom}
 use Rattle.run.specs.Iteration.{gradedRows, confidences, newRow, newList}
 
-module _ (n faulty : ℕ) (f : ℕ → ℕ → ℕ) (i : ℕ) (high : n ≤ 13) (below : i < n) (is-sound : member faulty i ≡ false) where
+module _ (n faulty : ℕ) (f : ℕ → ℕ → ℕ) (i : ℕ) (high : n ≤ 13) (below : i < n)
+    (is-sound : member faulty i ≡ false) where
   -- a cell of a sound box's part
   pub cell-of : (xs : List ℕ) → xs ≡ cells n (ofSound faulty f) → (k : ℕ) → k < n → getD xs (i * n + k) 0 ≡ f i k
   cell-of xs e k h =
-      ap (λ (ys : List ℕ). getD ys (i * n + k) 0) e ∙ cells-at n (ofSound faulty f) i k below h ∙ of-sound faulty f i k is-sound
+      ap (λ (ys : List ℕ). getD ys (i * n + k) 0) e ∙ cells-at n (ofSound faulty f) i k below h
+      ∙ of-sound faulty f i k is-sound
 
   -- the part as a list
-  pub part-of : (xs : List ℕ) → length xs ≡ 169 → xs ≡ cells n (ofSound faulty f) → take n (drop (i * n) xs) ≡ build n (f i)
+  pub part-of : (xs : List ℕ) → length xs ≡ 169 → xs ≡ cells n (ofSound faulty f) →
+      take n (drop (i * n) xs) ≡ build n (f i)
   part-of xs l e = part-built n i (f i) xs high below l (cell-of xs e)
 
-module _ (s : Run) (i : ℕ) (low : 1 ≤ s .n) (high : s .n ≤ 13) (works : Working s i) (table rows confs : List ℕ) (g : GradesOf s table rows confs) where
+module _ (s : Run) (i : ℕ) (low : 1 ≤ s .n) (high : s .n ≤ 13) (works : Working s i) (table rows confs : List ℕ)
+    (g : GradesOf s table rows confs) where
   -- where box i's part begins and ends
   abbrev from : ℕ
   from = i * s .n
@@ -85,11 +88,13 @@ module _ (s : Run) (i : ℕ) (low : 1 ≤ s .n) (high : s .n ≤ 13) (works : Wo
       conf = confidence (s .n) (s .t) (s .faulty) (s .rows) (s .lists) table
 
   -- the new row, by whether a row was chosen
-  pub new-row-old : chosenRow (gradedRows s table i) (confidences s table i) ≡ 0 → getD (s .rows) i 0 ≡ newRow s table i
+  pub new-row-old : chosenRow (gradedRows s table i) (confidences s table i) ≡ 0 →
+      getD (s .rows) i 0 ≡ newRow s table i
   unfolding newRow
   new-row-old e = sym (cond-true _ _ (eq-eqb (chosenRow (gradedRows s table i) (confidences s table i)) 0 e))
 
-  pub new-row-chosen : (v : ℕ) → v ≡ chosenRow (gradedRows s table i) (confidences s table i) → (v ≡ 0 → ⊥) → v ≡ newRow s table i
+  pub new-row-chosen : (v : ℕ) → v ≡ chosenRow (gradedRows s table i) (confidences s table i) → (v ≡ 0 → ⊥) →
+      v ≡ newRow s table i
   unfolding newRow
   new-row-chosen v e z =
       e ∙ sym (cond-false _ _ (ne-eqb (chosenRow (gradedRows s table i) (confidences s table i)) 0 (λ q. z (e ∙ q))))

@@ -16,7 +16,17 @@ use Rattle.sizes.proofs.Laws.{inside-low, inside-high, tolerated-lt}
 use Rattle.run.specs.declared.Run.{Run}
 use Rattle.run.specs.declared.Next.{Next}
 use Rattle.run.specs.Iteration.{nextRun}
-use Rattle.run.specs.State.{settingRefusal, startRefusal, startRun, startReply, zeros, badPlace, tooManySent, iterateRefusal, iterateReply}
+use Rattle.run.specs.State.{
+  settingRefusal,
+  startRefusal,
+  startRun,
+  startReply,
+  zeros,
+  badPlace,
+  tooManySent,
+  iterateRefusal,
+  iterateReply,
+}
 
 -- what passes 4, 5 and 6
 pub record Passed (n t faulty : ℕ) : Type 0 where
@@ -52,7 +62,8 @@ module _ (n t faulty : ℕ) where
     start-fails h = sym (refused-first first _ h)
 
     pub start-goes-on : settingRefusal n t faulty ≡ 0 →
-        startRefusal n t faulty rows ≡ firstOf (refuse 11 (not (eqb (length rows) n)) ∷ refuse 9 (soundZero n faulty rows) ∷ [])
+        startRefusal n t faulty rows ≡ firstOf
+        (refuse 11 (not (eqb (length rows) n)) ∷ refuse 9 (soundZero n faulty rows) ∷ [])
     unfolding startRefusal firstOf
     start-goes-on e = let s = setting-passes e in rw (s .pass4, s .pass5, s .pass6) refl
 

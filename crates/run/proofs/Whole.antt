@@ -1,6 +1,5 @@
--- One iteration put together: an accepted call is ready for steps 1 to 4, their reply is what step 5 is given, the counters stay
--- small, and the parts are the document's next state.
--- Assumes nothing.
+-- One iteration put together: an accepted call is ready for steps 1 to 4, their reply is what step 5 is given, the
+-- counters stay small, and the parts are the document's next state. Assumes nothing.
 use mathlib.Core.Path.{_≡_, refl, sym, ap, _∙_}
 use mathlib.Core.Bool.{Bool, true, false, cond, _&&_}
 use mathlib.Core.List.{List}
@@ -53,7 +52,9 @@ module _ (s : Run) (table : List ℕ) (a : Iterable s table) where
   module _ (r : Cast) (e : r ≡ castReply (s .n) (s .t) (s .faulty) (s .rows) (s .lists) table) where
     -- an accepted iteration's steps are not refused
     found : r ≡ castOf (s .n) (s .t) (s .faulty) (s .rows) (s .lists) table
-    found = e ∙ sym (cast-taken (s .n) (s .t) (s .faulty) (s .rows) (s .lists) table (ready-passes (s .n) (s .t) table ready few))
+    found =
+        e ∙ sym (cast-taken (s .n) (s .t) (s .faulty) (s .rows) (s .lists) table
+        (ready-passes (s .n) (s .t) table ready few))
 
     sent-is : r .sent ≡ messages (s .n) (s .t) (s .faulty) (s .rows) (s .lists) table
     unfolding castOf
@@ -73,7 +74,12 @@ module _ (s : Run) (table : List ℕ) (a : Iterable s table) where
     -- the reply of steps 1 to 4 is what step 5 is given
     pub grades : GradesOf s table (r .rows) (r .confidences)
     unfolding castOf
-    grades = record { found-rows = ap (λ (c : Cast). c .rows) found; found-confidences = ap (λ (c : Cast). c .confidences) found }
+    grades =
+        record {
+          found-rows = ap (λ (c : Cast). c .rows) found;
+          found-confidences = ap
+              (λ (c : Cast). c .confidences) found;
+        }
 
     pub cast-cells : AllCells s (r .rows) (r .confidences)
     cast-cells =
@@ -84,10 +90,12 @@ module _ (s : Run) (table : List ℕ) (a : Iterable s table) where
           all-confidences = ap length (grades .found-confidences) ∙ length-cells (s .n) _ high;
         }
 
-    lists-are : build 13 (entry (s .n) (s .faulty) (listFrom s (r .confidences))) ≡ build 13 (entry (s .n) (s .faulty) (newList s table))
+    lists-are : build 13 (entry (s .n) (s .faulty) (listFrom s (r .confidences))) ≡ build 13
+        (entry (s .n) (s .faulty) (newList s table))
     unfolding entry
     lists-are =
-        build-ext 13 (entry (s .n) (s .faulty) (listFrom s (r .confidences))) (entry (s .n) (s .faulty) (newList s table))
+        build-ext 13 (entry (s .n) (s .faulty) (listFrom s (r .confidences)))
+        (entry (s .n) (s .faulty) (newList s table))
         (λ i l. go i (ltb i (s .n) && sound (s .faulty) i) refl)
       where
         go : (i : ℕ) (b : Bool) → ltb i (s .n) && sound (s .faulty) i ≡ b →

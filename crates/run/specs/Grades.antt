@@ -1,5 +1,5 @@
--- What step 5 is given: the rows and the confidences that every sound box found in step 4, each in 169 places. Private functions
--- speak of it, and no promise of the crate names any of it.
+-- What step 5 is given: the rows and the confidences that every sound box found in step 4, each in 169 places.
+-- Private functions speak of it, and no promise of the crate names any of it.
 use mathlib.Core.Path.{_≡_}
 use mathlib.Core.Bool.{false, _||_}
 use mathlib.Core.List.{List}
@@ -13,9 +13,11 @@ use Rattle.run.specs.declared.Run.{Run}
 
 -- rows and confidences are what the sound boxes found with this table
 pub record GradesOf (s : Run) (table rows confidences : List ℕ) : Type 0 where
-  pub found-rows : rows ≡ cells (s .n) (ofSound (s .faulty) (gradeRow (s .n) (s .t) (s .faulty) (s .rows) (s .lists) table))
+  pub found-rows : rows ≡ cells (s .n)
+      (ofSound (s .faulty) (gradeRow (s .n) (s .t) (s .faulty) (s .rows) (s .lists) table))
   pub found-confidences :
-      confidences ≡ cells (s .n) (ofSound (s .faulty) (confidence (s .n) (s .t) (s .faulty) (s .rows) (s .lists) table))
+      confidences ≡ cells (s .n)
+      (ofSound (s .faulty) (confidence (s .n) (s .t) (s .faulty) (s .rows) (s .lists) table))
 
 -- the sizes that step 5 counts on
 pub record AllCells (s : Run) (rows confidences : List ℕ) : Type 0 where

@@ -1,5 +1,5 @@
--- A state that passes every test of the state itself: refusals 4, 5, 6, 9 and 14 are not given. An iteration still tests the
--- table's length (11) and the iterations done (12).
+-- A state that passes every test of the state itself: refusals 4, 5, 6, 9 and 14 are not given. An iteration still
+-- tests the table's length (11) and the iterations done (12).
 use mathlib.Core.Path.{_≡_}
 use mathlib.Core.Bool.{false}
 use Rattle.counting.specs.Count.{any}

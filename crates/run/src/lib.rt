@@ -333,8 +333,8 @@ fn step5_lists(s: Run, confidences: &[u8]) -> [u16; 13]
 }
 
 impl Run {
-    // One iteration: the state after it, with the number of the refusal. Refusals 4, 5, 6, 9, 11, 12, 14; a refused iteration
-    // hands the state back as it came.
+    // One iteration: the state after it, with the number of the refusal. Refusals 4, 5, 6, 9, 11, 12, 14; a refused
+    // iteration hands the state back as it came.
     pub fn iterate(self, table: &[u64]) -> Next
         ensures { λ r. ⌜ r ≡ iterateReply self (now (table .entry)) ⌝ }
     {

@@ -1,6 +1,6 @@
--- What the readers' replies say: a read that is not refused passed every test, an accepted heading is what a start takes, a
--- refused read leaves the slice, the slice keeps its length, and no second reply meets the contract.
--- Assumes nothing.
+-- What the readers' replies say: a read that is not refused passed every test, an accepted heading is what a start
+-- takes, a refused read leaves the slice, the slice keeps its length, and no second reply meets the contract. Assumes
+-- nothing.
 use mathlib.Core.Path.{_≡_, refl, sym, ap, _∙_}
 use mathlib.Core.Bool.{Bool, true, false, not, cond, _&&_}
 use mathlib.Core.List.{List}
@@ -19,7 +19,17 @@ use Rattle.sizes.proofs.Laws.{inside-low, tolerated, tolerated-lt, largest-tole
 use Rattle.runfile.specs.declared.Heading.{Heading}
 use Rattle.runfile.specs.File.{marked, versionOf, nOf, tByte, tOf, faultyOf, headingBytes, headingRow, tableRow}
 use Rattle.counting.specs.Count.{front}
-use Rattle.runfile.specs.Reply.{headingTests, headingRefusal, headingOf, nothingRead, headingReply, headingWrites, tableTests, tableRefusal, tableWrites}
+use Rattle.runfile.specs.Reply.{
+  headingTests,
+  headingRefusal,
+  headingOf,
+  nothingRead,
+  headingReply,
+  headingWrites,
+  tableTests,
+  tableRefusal,
+  tableWrites,
+}
 use Rattle.counting.proofs.Build.{front-length}
 
 -- the tests that a heading passed
@@ -72,7 +82,8 @@ table-accepted n bytes room h =
     let a10 = accepted 9 _ _ (a8 .1) in
     record { inside = a4 .0; exact = eqb-true _ _ (not-false _ (a8 .0)); enough = ltb-false _ _ (a10 .0) }
 
--- a refused heading gives the refusal's number alone and leaves the slice; another gives what it says and writes its rows
+-- a refused heading gives the refusal's number alone and leaves the slice; another gives what it says and writes its
+-- rows
 module _ (bytes : List ℕ) (slice : List ℕ) where
   pub heading-refused : (headingRefusal bytes (length slice) ≡ 0 → ⊥) →
       headingReply bytes (length slice) ≡ nothingRead (headingRefusal bytes (length slice))
@@ -132,7 +143,8 @@ table-length n bytes slice = go (ℕ-discrete (tableRefusal n bytes (length slic
     go (no d) = ap length (table-leaves n bytes slice d)
 
 -- the t of an accepted heading, the number that 255 stands for too, has 3t less than n
-pub heading-tolerates : (bytes : List ℕ) (room : ℕ) → headingRefusal bytes room ≡ 0 → 3 * tOf (nOf bytes) (tByte bytes) < nOf bytes
+pub heading-tolerates : (bytes : List ℕ) (room : ℕ) → headingRefusal bytes room ≡ 0 →
+    3 * tOf (nOf bytes) (tByte bytes) < nOf bytes
 unfolding tOf
 heading-tolerates bytes room e = go (eqb (tByte bytes) 255) refl
   where
@@ -145,13 +157,15 @@ heading-tolerates bytes room e = go (eqb (tByte bytes) 255) refl
 
 -- an accepted heading's numbers, with the n rows that were written, are such
 pub heading-startable : (bytes slice : List ℕ) → headingRefusal bytes (length slice) ≡ 0 →
-    Startable (nOf bytes) (tOf (nOf bytes) (tByte bytes)) (faultyOf bytes) (take (nOf bytes) (headingWrites bytes slice))
+    Startable (nOf bytes) (tOf (nOf bytes) (tByte bytes)) (faultyOf bytes)
+    (take (nOf bytes) (headingWrites bytes slice))
 unfolding front
 heading-startable bytes slice e =
     let a = heading-readable bytes (length slice) e in
     let rows : take (nOf bytes) (headingWrites bytes slice) ≡ build (nOf bytes) (headingRow bytes) =
     ap (take (nOf bytes)) (heading-written bytes slice e)
-    ∙ take-at (build (nOf bytes) (headingRow bytes)) (drop (nOf bytes) slice) (nOf bytes) (length-build (nOf bytes) (headingRow bytes)) in
+    ∙ take-at (build (nOf bytes) (headingRow bytes)) (drop (nOf bytes) slice) (nOf bytes)
+    (length-build (nOf bytes) (headingRow bytes)) in
     record {
       pass4 = a .inside;
       pass5 = tolerated _ _ (heading-tolerates bytes (length slice) e);

@@ -1,5 +1,5 @@
--- Numbers of several bytes: one in a + b bytes is the one in the first a, times 256 to the b, and the one in the last b.
--- Assumes nothing.
+-- Numbers of several bytes: one in a + b bytes is the one in the first a, times 256 to the b, and the one in the last
+-- b. Assumes nothing.
 use mathlib.Core.Path.{_≡_, sym, ap, _∙_}
 use mathlib.Core.List.{List}
 use Prim.Native.Nat.{ℕ, zero, suc, _+_, _*_, _^_}

@@ -1,5 +1,5 @@
--- The whole replies of the readers, and the last contents of the lent slice. A refused read writes nothing and gives 0 for all
--- but the refusal's number.
+-- The whole replies of the readers, and the last contents of the lent slice. A refused read writes nothing and gives
+-- 0 for all but the refusal's number.
 use Prim.Native.Nat.{ℕ, _+_, _*_}
 use mathlib.Core.Bool.{cond, not, _&&_}
 use mathlib.Core.List.{List, [], _∷_, _++_}
@@ -10,7 +10,18 @@ use Rattle.counting.specs.Refuse.{Refusal, firstOf}
 use Rattle.counting.specs.Refuse.Refusal.{refuse}
 use Rattle.sizes.specs.Sizes.{outside, tooMany, stray, soundZero, tableRows}
 use Rattle.runfile.specs.declared.Heading.{Heading}
-use Rattle.runfile.specs.File.{marked, versionOf, nOf, tByte, faultyOf, tOf, headingBytes, rowFrom, headingRow, tableRow}
+use Rattle.runfile.specs.File.{
+  marked,
+  versionOf,
+  nOf,
+  tByte,
+  faultyOf,
+  tOf,
+  headingBytes,
+  rowFrom,
+  headingRow,
+  tableRow,
+}
 
 -- the heading reader's refusals: 1, 2, 3, 4, 5 (255 passes), 6, 8, 9, 10; `room` is the length of the lent slice
 unfoldable pub headingTests : List ℕ → ℕ → List Refusal
@@ -83,7 +94,8 @@ partRefusal from count bytes room = firstOf (partTests from count bytes room)
 
 -- a slice with so many rows from a place on, each at the place that it has in the table, the rest of which stays
 unfoldable pub partOf : ℕ → ℕ → List ℕ → List ℕ → List ℕ
-partOf from count bytes slice = take from slice ++ (build count (rowFrom (8 * from) bytes) ++ drop (from + count) slice)
+partOf from count bytes slice =
+    take from slice ++ (build count (rowFrom (8 * from) bytes) ++ drop (from + count) slice)
 
 -- the slice after the part reader
 unfoldable pub partWrites : ℕ → ℕ → List ℕ → List ℕ → List ℕ

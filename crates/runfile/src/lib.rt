@@ -1,4 +1,5 @@
-// The run file: the heading reader, the table reader and the reader of a part of a table. All numbers stand most significant byte first.
+// The run file: the heading reader, the table reader and the reader of a part of a table. All numbers stand most
+// significant byte first.
 ghost use mathlib.Core.Path.{_≡_};
 ghost use mathlib.Core.List.{List};
 ghost use mathlib.Core.Bool.{false, not, _&&_};
@@ -215,8 +216,8 @@ fn heading_of(bytes: &[u8]) -> Heading
     }
 }
 
-// The heading reader: version, n, t and the faulty set, and the n rows at the front of the slice. Refusals 1, 2, 3, 4, 5, 6,
-// 8, 9, 10.
+// The heading reader: version, n, t and the faulty set, and the n rows at the front of the slice. Refusals 1, 2, 3,
+// 4, 5, 6, 8, 9, 10.
 pub fn read_heading(bytes: &[u8], rows: &mut [u64]) -> Heading
     ensures { λ r. ⌜ r ≡ headingReply (now (bytes .entry)) (length (now (rows .entry))) ⌝ }
     ensures { λ r. ⌜ now (rows .exit) ≡ headingWrites (now (bytes .entry)) (now (rows .entry)) ⌝ }
@@ -283,8 +284,8 @@ fn part_refusal(bytes: &[u8], from: usize, count: usize, room: usize) -> u8
     0
 }
 
-// The part reader: so many of a table's rows from a place on, each to its own place of the slice. Who needs some senders' rows
-// alone reads those. Refusals 8, 10.
+// The part reader: so many of a table's rows from a place on, each to its own place of the slice. Who needs some
+// senders' rows alone reads those. Refusals 8, 10.
 pub fn read_part(bytes: &[u8], from: usize, count: usize, rows: &mut [u64]) -> u8
     ensures { λ r. ⌜ r ≡ partRefusal from count (now (bytes .entry)) (length (now (rows .entry))) ⌝ }
     ensures { λ r. ⌜ now (rows .exit) ≡ partWrites from count (now (bytes .entry)) (now (rows .entry)) ⌝ }

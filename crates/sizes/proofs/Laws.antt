@@ -1,6 +1,5 @@
--- What the tests for refusals 4, 5 and 6 say, and the rule of a table by n: one computed test, and the law that turns it into
--- the formula at every n.
--- Assumes nothing.
+-- What the tests for refusals 4, 5 and 6 say, and the rule of a table by n: one computed test, and the law that turns
+-- it into the formula at every n. Assumes nothing.
 use mathlib.Core.Path.{_≡_, refl, sym, ap, _∙_, subst}
 use mathlib.Core.Bool.{Bool, true, false, not}
 use mathlib.Core.List.{List, [], _∷_}
@@ -18,7 +17,19 @@ use Rattle.counting.specs.Refuse.Refusal.{refuse}
 use Rattle.counting.specs.Sets.{member}
 use Rattle.counting.proofs.Refuse.{passed, accepted, refused-first}
 use Rattle.counting.proofs.Count.{any-none}
-use Rattle.counting.proofs.Bools.{either, not-of-true, not-of-false, cond-true, cond-false, or-none, or-true-left, or-true-right, or-false-left, or-false-right, not-false}
+use Rattle.counting.proofs.Bools.{
+  either,
+  not-of-true,
+  not-of-false,
+  cond-true,
+  cond-false,
+  or-none,
+  or-true-left,
+  or-true-right,
+  or-false-left,
+  or-false-right,
+  not-false,
+}
 use Rattle.sizes.specs.Sizes.{outside, tooMany, stray, sizeRefusal, largestT, tableRows, byN}
 
 -- refusal 4, both ways
@@ -70,7 +81,8 @@ lt-within n set h = lt-leb (2 ^ n) set h
 
 -- refusals 4 and 5, where they stand first: they are given, or what follows them decides
 module _ (n t : ℕ) (rest : List Refusal) where
-  pub size-given : (sizeRefusal n t ≡ 0 → ⊥) → firstOf (refuse 4 (outside n) ∷ refuse 5 (tooMany n t) ∷ rest) ≡ sizeRefusal n t
+  pub size-given : (sizeRefusal n t ≡ 0 → ⊥) →
+      firstOf (refuse 4 (outside n) ∷ refuse 5 (tooMany n t) ∷ rest) ≡ sizeRefusal n t
   unfolding sizeRefusal
   size-given z = refused-first (refuse 4 (outside n) ∷ refuse 5 (tooMany n t) ∷ []) rest z
 
@@ -133,7 +145,8 @@ pub table-rule : (table : List ℕ) (formula : ℕ → ℕ) → any 13 (wrong ta
 table-rule table formula test n low high =
     let same : n - 1 + 1 ≡ n = omega arith in
     eqb-true (getD table (n - 1) 0) (formula (n - 1 + 1))
-    (not-false (eqb (getD table (n - 1) 0) (formula (n - 1 + 1))) (any-none 13 (wrong table formula) test (n - 1) (omega arith)))
+    (not-false (eqb (getD table (n - 1) 0) (formula (n - 1 + 1)))
+    (any-none 13 (wrong table formula) test (n - 1) (omega arith)))
     ∙ ap formula same
     ∙ sym (by-n-inside formula n (inside n low high))
 
@@ -149,14 +162,17 @@ none-larger n t h = omega arith
 -- a set shifted by n is not 0 exactly where it has a bit at place n or above
 pub shifted : (n set : ℕ) → not (eqb (set / 2 ^ n) 0) ≡ stray n set
 unfolding stray
-shifted n set = ⊎-elim (λ t. high (leb-true (2 ^ n) set t) ∙ sym t) (λ f. low (leb-false (2 ^ n) set f) ∙ sym f) (either (leb (2 ^ n) set))
+shifted n set =
+    ⊎-elim (λ t. high (leb-true (2 ^ n) set t) ∙ sym t) (λ f. low (leb-false (2 ^ n) set f) ∙ sym f)
+    (either (leb (2 ^ n) set))
   where
     high : 2 ^ n ≤ set → not (eqb (set / 2 ^ n) 0) ≡ true
     high h =
         not-of-false
         (ne-eqb (set / 2 ^ n) 0
         (λ e.
-        absurd (not-le-of-lt (subst (λ (m : ℕ). set < m) (one-mul (2 ^ n)) (div-lt-iff-lt-mul (pow-pos n) .0 (omega (arith, e)))) h)))
+        absurd (not-le-of-lt
+        (subst (λ (m : ℕ). set < m) (one-mul (2 ^ n)) (div-lt-iff-lt-mul (pow-pos n) .0 (omega (arith, e)))) h)))
 
     low : set < 2 ^ n → not (eqb (set / 2 ^ n) 0) ≡ false
     low h = not-of-true (eq-eqb (set / 2 ^ n) 0 (div-eq-of-lt h))

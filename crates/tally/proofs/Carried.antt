@@ -1,6 +1,5 @@
--- What the vote's code tests of a row, and what the tests say of the definition: 0 is never carried, and any other row by its
--- places.
--- Assumes nothing.
+-- What the vote's code tests of a row, and what the tests say of the definition: 0 is never carried, and any other
+-- row by its places. Assumes nothing.
 use mathlib.Core.Path.{_≡_, refl}
 use mathlib.Core.Bool.{true, false}
 use mathlib.Core.List.{List}

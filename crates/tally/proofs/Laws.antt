@@ -1,8 +1,7 @@
--- Vote, grade and choice as their callers use them.
--- The vote: what is carried stands n − t times, which is more than half of the places, so no second row is carried and the
--- search can give no other. The grade: each confidence is one range of the support, and a row with support is not 0. The
--- choice: it is the number found most often among the rows that count, so the laws of that number hold of it.
--- Assumes nothing.
+-- Vote, grade and choice as their callers use them. The vote: what is carried stands n − t times, which is more than
+-- half of the places, so no second row is carried and the search can give no other. The grade: each confidence is one
+-- range of the support, and a row with support is not 0. The choice: it is the number found most often among the rows
+-- that count, so the laws of that number hold of it. Assumes nothing.
 use mathlib.Core.Path.{_≡_, refl, sym, ap, _∙_, subst}
 use mathlib.Core.Bool.{Bool, true, false, cond, not}
 use mathlib.Core.List.{List}
@@ -21,7 +20,16 @@ use Rattle.counting.proofs.Count.{any-none, find-cases}
 use Rattle.counting.proofs.Most.{Stands, IsMost, support-places, support-first, supported, most-is, most-unique}
 use Rattle.counting.proofs.Most.{most-stands, most-zero}
 use Rattle.counting.proofs.Places.{places-one, most-majority}
-use Rattle.tally.specs.Tally.{carried, voteOf, supportOf, confidenceAt, confidenceOf, gradedRow, counted, chosenRow}
+use Rattle.tally.specs.Tally.{
+  carried,
+  voteOf,
+  supportOf,
+  confidenceAt,
+  confidenceOf,
+  gradedRow,
+  counted,
+  chosenRow,
+}
 use Rattle.tally.proofs.Carried.{carried-enough}
 
 -- v is a non-zero row that stands at least n − t times
@@ -47,7 +55,8 @@ module _ (t : ℕ) (xs : List ℕ) where
   carried-one h v w c d = places-one xs v w (omega (arith, c .enough, d .enough))
 
   -- the vote is a carried row that stands in the column, or 0 where no row of the column is carried
-  vote-cases : (StandsEnough t xs (voteOf t xs)) ⊎ ((voteOf t xs ≡ 0) × ((k : ℕ) → k < length xs → carried t xs (getD xs k 0) ≡ false))
+  vote-cases : (StandsEnough t xs (voteOf t xs)) ⊎
+      ((voteOf t xs ≡ 0) × ((k : ℕ) → k < length xs → carried t xs (getD xs k 0) ≡ false))
   unfolding voteOf
   vote-cases =
       ⊎-elim
@@ -71,14 +80,16 @@ module _ (t : ℕ) (xs : List ℕ) where
       first c =
           let same = support-places xs (voteOf t xs) (c .not-zero) in
           let s = support-first xs (t + 1) (voteOf t xs) (omega arith) (omega (arith, same, c .enough)) in
-          never (ap (carried t xs) (s .here) ∙ stands-carried (voteOf t xs) c) (any-none (t + 1) _ none (s .at) (s .below))
+          never (ap (carried t xs) (s .here) ∙ stands-carried (voteOf t xs) c)
+          (any-none (t + 1) _ none (s .at) (s .below))
 
   -- a carried row is the vote
   pub vote-is : 3 * t < length xs → (v : ℕ) → StandsEnough t xs v → voteOf t xs ≡ v
   vote-is h v c =
       ⊎-elim
       (λ d. carried-one h (voteOf t xs) v d c)
-      (λ n. never (subst (λ (w : ℕ). carried t xs w ≡ true) (sym (stands .here)) (stands-carried v c)) (n .1 (stands .at) (stands .below)))
+      (λ n. never (subst (λ (w : ℕ). carried t xs w ≡ true) (sym (stands .here)) (stands-carried v c))
+      (n .1 (stands .at) (stands .below)))
       vote-cases
     where
       stands : Stands xs v
@@ -150,7 +161,8 @@ module _ (t : ℕ) (xs : List ℕ) where
   graded-most z = cond-false 0 (most xs) (ne-eqb (confidenceOf t xs) 0 z)
 
   -- a leader that counts has a row that is not 0, and the support is that row's places
-  pub graded-counts : (confidenceOf t xs ≡ 0 → ⊥) → (gradedRow t xs ≡ 0 → ⊥) × (places xs (gradedRow t xs) ≡ supportOf xs)
+  pub graded-counts : (confidenceOf t xs ≡ 0 → ⊥) →
+      (gradedRow t xs ≡ 0 → ⊥) × (places xs (gradedRow t xs) ≡ supportOf xs)
   unfolding supportOf
   graded-counts z = rw (graded-most z) (not-zero, sym (support-places xs (most xs) not-zero))
     where
@@ -200,7 +212,8 @@ module _ (rows confidences : List ℕ) where
   chosen-most = most-is (counted rows confidences)
 
   -- no other row is so
-  pub chosen-unique : (v : ℕ) → IsMost (counted rows confidences) v → (v ≡ 0 → ⊥) → 0 < support (counted rows confidences) v →
+  pub chosen-unique : (v : ℕ) → IsMost (counted rows confidences) v → (v ≡ 0 → ⊥) →
+      0 < support (counted rows confidences) v →
       v ≡ chosenRow rows confidences
   unfolding chosenRow
   chosen-unique = most-unique (counted rows confidences)
@@ -216,7 +229,8 @@ module _ (rows confidences : List ℕ) where
       below : s .at < length rows
       below = omega (arith, s .below, length-counted)
 
-      go : (b : Bool) → eqb (getD confidences (s .at) 0) 0 ≡ b → Held rows confidences (most (counted rows confidences))
+      go : (b : Bool) → eqb (getD confidences (s .at) 0) 0 ≡ b →
+          Held rows confidences (most (counted rows confidences))
       go true e = absurd (z (sym (s .here) ∙ counted-at (s .at) below ∙ rw e refl))
       go false e =
           record {

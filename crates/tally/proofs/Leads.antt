@@ -1,5 +1,5 @@
--- The lead so far and a row v: v takes the lead exactly where it stands before the leading row, and the lead carries its own
--- support. Assumes nothing.
+-- The lead so far and a row v: v takes the lead exactly where it stands before the leading row, and the lead carries
+-- its own support. Assumes nothing.
 use mathlib.Core.Path.{_≡_, refl, sym, ap, _∙_}
 use mathlib.Core.Bool.{true, false, cond}
 use mathlib.Core.List.{List}

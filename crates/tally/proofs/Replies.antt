@@ -18,7 +18,18 @@ use Rattle.tally.specs.declared.Voted.{Voted}
 use Rattle.tally.specs.declared.Graded.{Graded}
 use Rattle.tally.specs.declared.Chosen.{Chosen}
 use Rattle.tally.specs.declared.Lead.{Lead}
-use Rattle.tally.specs.Tally.{confidenceAt, supportOf, counted, firmFor, twoRows, voteOf, gradedRow, confidenceOf, chosenRow, firmLeaders}
+use Rattle.tally.specs.Tally.{
+  confidenceAt,
+  supportOf,
+  counted,
+  firmFor,
+  twoRows,
+  voteOf,
+  gradedRow,
+  confidenceOf,
+  chosenRow,
+  firmLeaders,
+}
 use Rattle.tally.specs.Reply.{voteRefusal, choiceRefusal, unless, voteReply, gradeReply, choiceReply}
 use Rattle.tally.specs.Inside.{leadOf}
 
@@ -54,8 +65,10 @@ module _ (xs : List ℕ) (t : ℕ) where
   unfolding gradeReply unless
   grade-taken row confidence e h k = rw (e, h, k) refl
 
-  -- what the lead gives: its support is the support of the grade, and its row is the graded row where the confidence is not 0
-  pub lead-confidence : (lead : Lead) (c : ℕ) → lead ≡ leadOf xs (most xs) → c ≡ confidenceAt t (lead .support) → c ≡ confidenceOf t xs
+  -- what the lead gives: its support is the support of the grade, and its row is the graded row where the confidence
+  -- is not 0
+  pub lead-confidence : (lead : Lead) (c : ℕ) → lead ≡ leadOf xs (most xs) → c ≡ confidenceAt t (lead .support) →
+      c ≡ confidenceOf t xs
   unfolding leadOf confidenceOf supportOf
   lead-confidence lead c e h = h ∙ ap (λ (l : Lead). confidenceAt t (l .support)) e
 
@@ -101,7 +114,8 @@ module _ (rows confidences : List ℕ) where
   unfolding firmLeaders
   firm-none h = sym (cond-true 0 _ (eq-eqb (chosenRow rows confidences) 0 h))
 
-  pub firm-some : (row firm : ℕ) → row ≡ chosenRow rows confidences → (row ≡ 0 → ⊥) → firm ≡ firmFor rows confidences row →
+  pub firm-some : (row firm : ℕ) → row ≡ chosenRow rows confidences → (row ≡ 0 → ⊥) →
+      firm ≡ firmFor rows confidences row →
       firm ≡ firmLeaders rows confidences
   unfolding firmLeaders
   firm-some row firm e z h =

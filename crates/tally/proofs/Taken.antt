@@ -1,6 +1,5 @@
--- What a caller gets that keeps to the sizes: the vote, the grade and the choice themselves. A vote is never refused by 7 then,
--- since two rows that stand n − t times each are one row where 3t < n.
--- Assumes nothing.
+-- What a caller gets that keeps to the sizes: the vote, the grade and the choice themselves. A vote is never refused
+-- by 7 then, since two rows that stand n − t times each are one row where 3t < n. Assumes nothing.
 use mathlib.Core.Path.{_≡_, refl, sym, ap, _∙_}
 use mathlib.Core.Bool.{Bool, true, false, not, _&&_}
 use mathlib.Core.List.{List}
@@ -29,13 +28,15 @@ never-two t xs h = none-any (length xs) _ (λ i bi. none-any (length xs) _ (λ j
     is k = carried t xs (getD xs k 0)
 
     -- two carried rows are one row
-    apart : (i j : ℕ) (a : Bool) → is i ≡ a → (b : Bool) → is j ≡ b → a && b && not (eqb (getD xs i 0) (getD xs j 0)) ≡ false
+    apart : (i j : ℕ) (a : Bool) → is i ≡ a → (b : Bool) → is j ≡ b →
+        a && b && not (eqb (getD xs i 0) (getD xs j 0)) ≡ false
     apart i j false e b f = refl
     apart i j true e false f = refl
     apart i j true e true f =
         not-of-true
         (eq-eqb (getD xs i 0) (getD xs j 0)
-        (carried-one t xs h (getD xs i 0) (getD xs j 0) (carried-stands t xs (getD xs i 0) e) (carried-stands t xs (getD xs j 0) f)))
+        (carried-one t xs h (getD xs i 0) (getD xs j 0) (carried-stands t xs (getD xs i 0) e)
+        (carried-stands t xs (getD xs j 0) f)))
 
 module _ (xs : List ℕ) (t : ℕ) (s : Sized (length xs) t) where
   pub vote-row : voteReply xs t .row ≡ voteOf t xs
@@ -46,7 +47,8 @@ module _ (xs : List ℕ) (t : ℕ) (s : Sized (length xs) t) where
       (vote-passes xs t (sized-passes (length xs) t s) ∙ cond-false 7 0 (never-two t xs (s .few)))
       refl))
 
-  graded : _≡_ {A = Graded} (record { refusal = 0; row = gradedRow t xs; confidence = confidenceOf t xs }) (gradeReply xs t)
+  graded : _≡_ {A = Graded} (record { refusal = 0; row = gradedRow t xs; confidence = confidenceOf t xs })
+      (gradeReply xs t)
   graded = grade-taken xs t (gradedRow t xs) (confidenceOf t xs) (sized-passes (length xs) t s) refl refl
 
   pub grade-row : gradeReply xs t .row ≡ gradedRow t xs
@@ -57,7 +59,8 @@ module _ (xs : List ℕ) (t : ℕ) (s : Sized (length xs) t) where
 
 -- a choice over 1 to 13 rows and as many confidences, none above 2
 pub choice-row : (rows confidences : List ℕ) → 1 ≤ length rows → length rows ≤ 13 → length rows ≡ length confidences →
-    ((k : ℕ) → k < length confidences → getD confidences k 0 ≤ 2) → choiceReply rows confidences .row ≡ chosenRow rows confidences
+    ((k : ℕ) → k < length confidences → getD confidences k 0 ≤ 2) →
+    choiceReply rows confidences .row ≡ chosenRow rows confidences
 unfolding choiceRefusal firstOf above2
 choice-row rows confidences low high same small =
     ap (λ (r : Chosen). r .row)
@@ -66,7 +69,8 @@ choice-row rows confidences low high same small =
     (rw (
       inside (length rows) low high,
       eq-eqb (length rows) (length confidences) same,
-      none-any (length confidences) (λ k. ltb 2 (getD confidences k 0)) (λ k l. le-ltb 2 (getD confidences k 0) (small k l)),
+      none-any (length confidences) (λ k. ltb 2 (getD confidences k 0))
+          (λ k l. le-ltb 2 (getD confidences k 0) (small k l)),
     )
     refl)
     refl refl))

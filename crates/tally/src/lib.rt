@@ -83,7 +83,8 @@ fn vote_of(rows: &[u64], t: u8) -> u64
     0
 }
 
-// The vote of step 3: the non-zero row that stands at least n − t times, or 0. Refusals 4, 5, 7; after 4 and 5 no slice gives 7.
+// The vote of step 3: the non-zero row that stands at least n − t times, or 0. Refusals 4, 5, 7; after 4 and 5 no
+// slice gives 7.
 pub fn vote(rows: &[u64], t: u8) -> Voted
     ensures { λ r. ⌜ r ≡ voteReply (now (rows .entry)) t ⌝ }
 {
@@ -278,8 +279,8 @@ fn firm_for(rows: &[u64], confidences: &[u8], chosen: u64) -> usize
     firm
 }
 
-// The choice of step 5: the row held by the most leaders with confidence 1 or 2, the lowest on a tie, and how many leaders with
-// confidence 2 hold it. Refusals 4, 11, 13.
+// The choice of step 5: the row held by the most leaders with confidence 1 or 2, the lowest on a tie, and how many
+// leaders with confidence 2 hold it. Refusals 4, 11, 13.
 pub fn choose(rows: &[u64], confidences: &[u8]) -> Chosen
     ensures { λ r. ⌜ r ≡ choiceReply (now (rows .entry)) (now (confidences .entry)) ⌝ }
 {

@@ -34,7 +34,8 @@ table-long c = c .take-faulty .kept .1 .1 .1 .0 ∙ start-of (begins-of c) .pre 
 
 rows-fit : (c : tie.After-take-faulty) →
     begins-of c .before .table-rows .result ≤ length (c .take-faulty .last .1 .1 .1 .0)
-rows-fit c = omega (arith, table-long c, rows-of (begins-of c .before), table-le (start-of (begins-of c) .pre .0 .high))
+rows-fit c =
+    omega (arith, table-long c, rows-of (begins-of c .before), table-le (start-of (begins-of c) .pre .0 .high))
 
 table-rows-requires : tie.Need-table-rows-requires
 table-rows-requires c κs = search needs

@@ -9,7 +9,24 @@ use lib.ListN.{length}
 use Rattle.listing.specs.Inside.{Put}
 use Rattle.listing.specs.Listing.{endedBy, iterationLines}
 use Rattle.listing.proofs.Text.{put-nothing, put-then, put-long}
-use Rattle.listing.proofs.Iterations.{Going, started-going, going-low, going-high, going-few, underway, next-refused, next-done, next-state, next-kept, going-on, stopped-done, stopped-outcome, finished-done, finished-outcome, lines-turn}
+use Rattle.listing.proofs.Iterations.{
+  Going,
+  started-going,
+  going-low,
+  going-high,
+  going-few,
+  underway,
+  next-refused,
+  next-done,
+  next-state,
+  next-kept,
+  going-on,
+  stopped-done,
+  stopped-outcome,
+  finished-done,
+  finished-outcome,
+  lines-turn,
+}
 use borrow.Author.Needs.{needs}
 use Rattle.listing.proofs.tell_iterations.Statement.{statement}
 use Rattle.listing.proofs.tell_iterations.Tie as tie

@@ -1,4 +1,5 @@
--- `replies::answer_all` is safe and ends: the slices keep their lengths. The measure is the number of turns left. Assumes nothing.
+-- `replies::answer_all` is safe and ends: the slices keep their lengths. The measure is the number of turns left.
+-- Assumes nothing.
 use mathlib.Core.Path.{_≡_}
 use lib.ListN.{length}
 use borrow.Author.Needs.{needs}
@@ -6,7 +7,8 @@ use Rattle.replies.proofs.answer_all.Statement.{statement}
 use Rattle.replies.proofs.answer_all.Tie as tie
 
 abbrev Inv-loop : tie.InvT-loop
-Inv-loop bytes₀ numbers₀ text₀ turns₀ bytes numbers text turns = (length bytes ≡ length bytes₀) × (length numbers ≡ length numbers₀) × (length text ≡ length text₀)
+Inv-loop bytes₀ numbers₀ text₀ turns₀ bytes numbers text turns =
+    (length bytes ≡ length bytes₀) × (length numbers ≡ length numbers₀) × (length text ≡ length text₀)
 
 abbrev μ-loop : tie.MeasureT-loop
 μ-loop bytes₀ numbers₀ text₀ turns₀ bytes numbers text turns = turns

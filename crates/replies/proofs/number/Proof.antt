@@ -1,5 +1,5 @@
--- `replies::number` is safe and ends: what goes on is below 2 ^ 56, so with one more byte it has 64 bits. What is left of the size falls.
--- Assumes nothing.
+-- `replies::number` is safe and ends: what goes on is below 2 ^ 56, so with one more byte it has 64 bits. What is
+-- left of the size falls. Assumes nothing.
 use Prim.Native.Nat.{_-_, _≤_}
 use borrow.Author.Needs.{needs}
 use Rattle.replies.proofs.number.Statement.{statement}

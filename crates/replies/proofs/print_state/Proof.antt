@@ -1,4 +1,5 @@
--- `replies::print_state` is safe and ends: there are 32 numbers throughout. The measure is the number of boxes left. Assumes nothing.
+-- `replies::print_state` is safe and ends: there are 32 numbers throughout. The measure is the number of boxes left.
+-- Assumes nothing.
 use Prim.Native.Nat.{_-_}
 use mathlib.Core.Path.{_≡_}
 use lib.ListN.{length}

@@ -1,4 +1,5 @@
--- `replies::state_lists` is safe and ends: there are 13 lists throughout. The measure is the number of lists left. Assumes nothing.
+-- `replies::state_lists` is safe and ends: there are 13 lists throughout. The measure is the number of lists left.
+-- Assumes nothing.
 use Prim.Native.Nat.{_-_}
 use mathlib.Core.Path.{_≡_}
 use lib.ListN.{length}

@@ -1,4 +1,5 @@
--- `replies::state_rows` is safe and ends: there are 13 rows throughout. The measure is the number of rows left. Assumes nothing.
+-- `replies::state_rows` is safe and ends: there are 13 rows throughout. The measure is the number of rows left.
+-- Assumes nothing.
 use Prim.Native.Nat.{_-_}
 use mathlib.Core.Path.{_≡_}
 use lib.ListN.{length}

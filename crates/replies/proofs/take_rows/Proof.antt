@@ -1,4 +1,5 @@
--- `replies::take_rows` is safe and ends: the slice keeps its length. The measure is the number of rows left. Assumes nothing.
+-- `replies::take_rows` is safe and ends: the slice keeps its length. The measure is the number of rows left. Assumes
+-- nothing.
 use Prim.Native.Nat.{_-_}
 use mathlib.Core.Path.{_≡_}
 use lib.ListN.{length}

@@ -1,5 +1,5 @@
--- `run::has_bad_place` meets its contract: a turn ends the search at a bad place, and otherwise none of the first k + 1 is bad. What is left
--- of 13 falls. Assumes nothing.
+-- `run::has_bad_place` meets its contract: a turn ends the search at a bad place, and otherwise none of the first k +
+-- 1 is bad. What is left of 13 falls. Assumes nothing.
 use Prim.Native.Nat.{_-_}
 use native.Mathlib.Omega.{arith}
 use Rattle.counting.proofs.Loops.{NoneYet, search-begins, search-turn, search-hits, search-ends}

@@ -1,4 +1,5 @@
--- `run::has_too_many_sent` meets its contract: the table by n gives the rows of a table, at most 4,563. Assumes nothing.
+-- `run::has_too_many_sent` meets its contract: the table by n gives the rows of a table, at most 4,563. Assumes
+-- nothing.
 use mathlib.Core.Path.{ap, _∙_}
 use Prim.Native.Nat.{ℕ, _*_, _≤_}
 use native.Mathlib.Nat.{mul-le-mul}

@@ -1,5 +1,5 @@
--- `run::new_list` meets its contract: after k turns the list is the set of the leaders below k that join, and the bit is
--- that of leader k. What is left of n falls. Assumes nothing.
+-- `run::new_list` meets its contract: after k turns the list is the set of the leaders below k that join, and the bit
+-- is that of leader k. What is left of n falls. Assumes nothing.
 use mathlib.Core.Path.{_≡_, refl, ap, _∙_}
 use mathlib.Core.Bool.{Bool, cond, _||_}
 use Prim.Native.Nat.{ℕ, _+_, _*_, _^_, _≤_, _-_}

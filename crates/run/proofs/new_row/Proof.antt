@@ -1,5 +1,5 @@
--- `run::new_row` meets its contract: box i's parts of the 169 places are the leaders' rows and confidences, and the choice
--- over them is the document's. Assumes nothing.
+-- `run::new_row` meets its contract: box i's parts of the 169 places are the leaders' rows and confidences, and the
+-- choice over them is the document's. Assumes nothing.
 use mathlib.Core.Path.{_≡_, sym, ap, _∙_}
 use mathlib.Core.List.{List}
 use Prim.Native.Nat.{ℕ, _+_, _*_, _≤_}

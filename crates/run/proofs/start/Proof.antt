@@ -28,7 +28,16 @@ unfolding startRun
 returns-2 c =
     let a = c .before .before .before .before .args in
     start-taken _ _ _ _ _ (sym (c .before .before .start-refusal .ensures) ∙ c .before .if1 .left)
-    (λ i. record { n = a .n; t = a .t; faulty = a .faulty; done = 0; sent = 0; rows = c .start-rows .ensures i; lists = replicate 13 0 })
+    (λ i. record {
+      n = a .n;
+      t = a .t;
+      faulty = a .faulty;
+      done = 0;
+      sent = 0;
+      rows = c .start-rows .ensures i;
+      lists =
+          replicate 13 0;
+    })
 
 pub start-spec : {M : Type 1} → statement M
 start-spec = tie.close (tie.spec start-refusal-requires no-run-requires returns start-rows-requires returns-2)

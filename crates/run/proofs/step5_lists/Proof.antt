@@ -1,4 +1,5 @@
--- `run::step5_lists` meets its contract: after i turns the first i lists are filled. What is left of 13 falls. Assumes nothing.
+-- `run::step5_lists` meets its contract: after i turns the first i lists are filled. What is left of 13 falls.
+-- Assumes nothing.
 use mathlib.Core.Path.{refl}
 use Prim.Native.Nat.{_-_}
 use native.Mathlib.Nat.{le-refl}
@@ -38,7 +39,8 @@ loop-less c = search needs
 
 loop-again : tie.Need-loop-again Inv-loop μ-loop
 loop-again c =
-    fill-turn _ (replicate 13 0) (le-refl _) (c .before .before .loop .inv) (c .before .loop-test .taken) (c .list-at .ensures)
+    fill-turn _ (replicate 13 0) (le-refl _) (c .before .before .loop .inv) (c .before .loop-test .taken)
+    (c .list-at .ensures)
 
 returns : tie.Need-returns Inv-loop μ-loop
 returns c = fill-ends _ (replicate 13 0) refl (c .before .loop .inv) (omega arith)

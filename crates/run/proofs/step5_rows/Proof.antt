@@ -1,4 +1,5 @@
--- `run::step5_rows` meets its contract: after i turns the first i rows are filled. What is left of 13 falls. Assumes nothing.
+-- `run::step5_rows` meets its contract: after i turns the first i rows are filled. What is left of 13 falls. Assumes
+-- nothing.
 use mathlib.Core.Path.{refl}
 use mathlib.Core.List.{List}
 use Prim.Native.Nat.{ℕ, _-_}

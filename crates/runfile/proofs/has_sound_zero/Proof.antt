@@ -1,5 +1,5 @@
--- `runfile::has_sound_zero` meets its contract: a turn ends the search where box k is sound and its row is 0, and otherwise none of the
--- first k + 1 boxes is such. What is left of n falls. Assumes nothing.
+-- `runfile::has_sound_zero` meets its contract: a turn ends the search where box k is sound and its row is 0, and
+-- otherwise none of the first k + 1 boxes is such. What is left of n falls. Assumes nothing.
 use mathlib.Core.Path.{_≡_, sym, ap, _∙_}
 use mathlib.Core.Bool.{Bool, false, _&&_}
 use mathlib.Core.List.{List}
@@ -29,7 +29,8 @@ abbrev μ-loop : tie.MeasureT-loop
 
 -- the test at box k, made of its row in the heading
 at-box : (c : tie.After-is-sound-zero Inv-loop μ-loop) →
-    zeroAt (c .before .before .before .before .before .args .bytes .now) (c .before .before .before .before .before .args .n)
+    zeroAt (c .before .before .before .before .before .args .bytes .now)
+    (c .before .before .before .before .before .args .n)
     (c .before .before .before .before .before .args .faulty) (c .before .before .before .loop .k)
     ≡ c .is-sound-zero .result
 unfolding headingRow rowFrom

@@ -32,7 +32,13 @@ cast-t12 c = search needs
 
 returns : tie.Need-returns
 unfolding headingOf versionOf nOf tByte faultyOf
-returns c = rw (← c .number22 .ensures .0, ← c .before .t-of .ensures, ← c .before .before .before .before .before .number2 .ensures .0)
+returns c =
+    rw (
+      ← c .number22 .ensures .0,
+      ← c .before .t-of .ensures,
+      ← c .before .before .before .before .before .number2
+          .ensures .0,
+    )
 
 pub heading-of-spec : {M : Type 1} → statement M
 heading-of-spec =

@@ -1,5 +1,5 @@
--- `runfile::heading_refusal` meets its contract: it makes the nine tests in their order. What is left of the list of tests is followed
--- from one to the next. Assumes nothing.
+-- `runfile::heading_refusal` meets its contract: it makes the nine tests in their order. What is left of the list of
+-- tests is followed from one to the next. Assumes nothing.
 use mathlib.Core.Path.{_≡_, sym, ap, _∙_}
 use mathlib.Core.Bool.{not, false}
 use mathlib.Core.List.{List, []}
@@ -65,7 +65,9 @@ passed-2 c = passed-1 (c .before .before) ∙ passed 2 _ (ap not (sym (c .before
 
 passed-3 : (c : tie.Else3) → Passed (start-3 c) 3
 unfolding headingTests versionOf
-passed-3 c = passed-2 (c .before .before) ∙ passed 3 _ (not-of-true (eq-eqb _ _ (sym (c .before .number2 .ensures .0) ∙ c .if3 .left)))
+passed-3 c =
+    passed-2 (c .before .before)
+    ∙ passed 3 _ (not-of-true (eq-eqb _ _ (sym (c .before .number2 .ensures .0) ∙ c .if3 .left)))
 
 inside-of : (c : tie.Else4) → outside (n-of (start-4 c)) ≡ false
 inside-of c = sym (c .before .is-outside .ensures) ∙ c .if4 .left
@@ -80,7 +82,8 @@ passed-5 c = passed-4 (c .before .before .before) ∙ passed 5 _ (sym (c .before
 
 -- the faulty set is the number that was read
 stray-of : (c : tie.After-is-stray) →
-    stray (n-of (start-5 (c .before .before))) (faultyOf (bytes-of (start-5 (c .before .before)))) ≡ c .is-stray .result
+    stray (n-of (start-5 (c .before .before)))
+    (faultyOf (bytes-of (start-5 (c .before .before)))) ≡ c .is-stray .result
 unfolding faultyOf
 stray-of c = ap (stray _) (sym (c .before .number22 .ensures .0)) ∙ sym (c .is-stray .ensures)
 
@@ -99,7 +102,8 @@ zero-of : (c : tie.After-has-sound-zero) →
 unfolding faultyOf
 zero-of c =
     let s = start-7 (c .before) in
-    ap (λ (faulty : ℕ). soundZero (n-of s) faulty (build (n-of s) (headingRow (bytes-of s)))) (sym (c .before .before .before .before .number22 .ensures .0))
+    ap (λ (faulty : ℕ). soundZero (n-of s) faulty (build (n-of s) (headingRow (bytes-of s))))
+    (sym (c .before .before .before .before .number22 .ensures .0))
     ∙ sym (c .has-sound-zero .ensures)
 
 passed-9 : (c : tie.Else8) → Passed (start-8 c) 8
@@ -115,14 +119,17 @@ is-marked-requires c κs = search needs
 
 returns-2 : tie.Need-returns-2
 unfolding headingTests
-returns-2 c = sym (passed-1 (c .before .before) ∙ refused 2 _ (ap not (sym (c .before .is-marked .ensures)) ∙ c .if2 .taken))
+returns-2 c =
+    sym (passed-1 (c .before .before) ∙ refused 2 _ (ap not (sym (c .before .is-marked .ensures)) ∙ c .if2 .taken))
 
 number2-requires : tie.Need-number2-requires
 number2-requires c κs = search needs
 
 returns-3 : tie.Need-returns-3
 unfolding headingTests versionOf
-returns-3 c = sym (passed-2 (c .before .before) ∙ refused 3 _ (not-of-false (ne-eqb _ _ (λ e. c .if3 .taken (c .before .number2 .ensures .0 ∙ e)))))
+returns-3 c =
+    sym (passed-2 (c .before .before)
+    ∙ refused 3 _ (not-of-false (ne-eqb _ _ (λ e. c .if3 .taken (c .before .number2 .ensures .0 ∙ e)))))
 
 shared-slice-read-n : tie.Need-shared-slice-read-n
 shared-slice-read-n c = search needs
@@ -132,7 +139,8 @@ is-outside-requires c κs = search needs
 
 returns-4 : tie.Need-returns-4
 unfolding headingTests nOf
-returns-4 c = sym (passed-3 (c .before .before .before) ∙ refused 4 _ (sym (c .before .is-outside .ensures) ∙ c .if4 .taken))
+returns-4 c =
+    sym (passed-3 (c .before .before .before) ∙ refused 4 _ (sym (c .before .is-outside .ensures) ∙ c .if4 .taken))
 
 shared-slice-read-is-too-many : tie.Need-shared-slice-read-is-too-many
 shared-slice-read-is-too-many c = search needs
@@ -142,7 +150,8 @@ is-too-many-requires c κs = inside-of (c .before)
 
 returns-5 : tie.Need-returns-5
 unfolding headingTests nOf tByte
-returns-5 c = sym (passed-4 (c .before .before .before) ∙ refused 5 _ (sym (c .before .is-too-many .ensures) ∙ c .if5 .taken))
+returns-5 c =
+    sym (passed-4 (c .before .before .before) ∙ refused 5 _ (sym (c .before .is-too-many .ensures) ∙ c .if5 .taken))
 
 number2-requires-2 : tie.Need-number2-requires-2
 number2-requires-2 c κs = search needs

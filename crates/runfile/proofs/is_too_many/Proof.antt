@@ -1,5 +1,5 @@
--- `runfile::is_too_many` meets its contract: 255 passes, in the middle arm both sides make the same test, and a larger number is
--- above a third of 13. Assumes nothing.
+-- `runfile::is_too_many` meets its contract: 255 passes, in the middle arm both sides make the same test, and a
+-- larger number is above a third of 13. Assumes nothing.
 use native.Mathlib.Omega.{arith}
 use borrow.Author.Tests.{eq-eqb, ne-eqb}
 use Rattle.sizes.specs.Sizes.{tooMany}

@@ -34,8 +34,16 @@ returns : tie.Need-returns
 unfolding number
 returns c =
     let bytes = c .before .before .before .before .before .args .bytes .now in
-    let at = c .before .before .before .before .before .args .at in
-    (omega (arith, c .before .before .wide .ensures .0, c .wide2 .ensures .0, ap (λ (m : ℕ). getD bytes m 0) (add-zero at)), search needs)
+    let at = c .before .before .before .before .before .args .at in (
+      omega (
+        arith,
+        c .before .before .wide .ensures .0,
+        c .wide2 .ensures .0,
+        ap (λ (m : ℕ). getD bytes m 0)
+            (add-zero at),
+      ),
+      search needs,
+    )
 
 pub number2-spec : {M : Type 1} → statement M
 number2-spec =

@@ -1,5 +1,5 @@
--- `runfile::number8` meets its contract: the number in 8 bytes is that in the first 4, times 256 to the 4, and that in the
--- last 4. Assumes nothing.
+-- `runfile::number8` meets its contract: the number in 8 bytes is that in the first 4, times 256 to the 4, and that
+-- in the last 4. Assumes nothing.
 use native.Mathlib.Omega.{arith}
 use Rattle.runfile.proofs.Numbers.{number-split}
 use borrow.Author.Needs.{needs}

@@ -1,5 +1,5 @@
--- `runfile::read_heading` meets its contract: the refusal is made first, and a heading that is not refused has room for its rows in
--- the bytes and in the slice. Assumes nothing.
+-- `runfile::read_heading` meets its contract: the refusal is made first, and a heading that is not refused has room
+-- for its rows in the bytes and in the slice. Assumes nothing.
 use mathlib.Core.Path.{_≡_, sym, ap, _∙_}
 use Prim.Native.Nat.{ℕ}
 use native.Mathlib.Omega.{arith}
@@ -9,7 +9,14 @@ use Rattle.runfile.specs.declared.Heading.{Heading}
 use Rattle.runfile.specs.File.{nOf, headingBytes, headingRow}
 use Rattle.counting.specs.Count.{front}
 use Rattle.runfile.specs.Reply.{headingRefusal, nothingRead, headingOf}
-use Rattle.runfile.proofs.Laws.{Readable, heading-readable, heading-refused, heading-leaves, heading-given, heading-written}
+use Rattle.runfile.proofs.Laws.{
+  Readable,
+  heading-readable,
+  heading-refused,
+  heading-leaves,
+  heading-given,
+  heading-written,
+}
 use borrow.Author.Needs.{needs}
 use Rattle.runfile.proofs.read_heading.Statement.{statement}
 use Rattle.runfile.proofs.read_heading.Tie as tie
@@ -24,7 +31,8 @@ none c = sym (c .before .heading-refusal .ensures) ∙ c .if1 .left
 read : (c : tie.Else1) → Readable (start-of c .args .bytes .now) (length (start-of c .args .rows .now))
 read c = heading-readable _ _ (none c)
 
-n-of : (c : tie.After-heading-of) → c .heading-of .result .n ≡ nOf (c .before .before .before .before .before .args .bytes .now)
+n-of : (c : tie.After-heading-of) →
+    c .heading-of .result .n ≡ nOf (c .before .before .before .before .before .args .bytes .now)
 unfolding headingOf
 n-of c = ap (λ (h : Heading). h .n) (c .heading-of .ensures)
 
@@ -35,7 +43,8 @@ returns : tie.Need-returns
 unfolding nothingRead
 returns c =
     let e = c .before .heading-refusal .ensures in (
-      ap nothingRead e ∙ sym (heading-refused _ (c .before .before .before .before .args .rows .now) (λ z. c .if1 .taken (e ∙ z))),
+      ap nothingRead e
+          ∙ sym (heading-refused _ (c .before .before .before .before .args .rows .now) (λ z. c .if1 .taken (e ∙ z))),
       sym (heading-leaves _ _ (λ z. c .if1 .taken (e ∙ z))),
     )
 
@@ -47,7 +56,14 @@ cast-write-rows c = omega (arith, n-of (c .before), inside-high _ (read (c .befo
 
 write-rows-requires : tie.Need-write-rows-requires
 unfolding headingBytes
-write-rows-requires c κs = omega (arith, n-of (c .before .before), read (c .before .before .before) .whole, read (c .before .before .before) .enough)
+write-rows-requires c κs =
+    omega (
+      arith,
+      n-of (c .before .before),
+      read (c .before .before .before) .whole,
+      read
+          (c .before .before .before) .enough,
+    )
 
 same-length : tie.Need-same-length
 same-length c = search needs
@@ -57,7 +73,8 @@ unfolding headingRow
 returns-2 c =
     let bytes = c .before .before .before .before .before .before .before .before .before .before .args .bytes .now in
     let rows = c .before .before .before .before .before .before .before .before .before .before .args .rows .now in (
-      c .before .before .before .before .before .heading-of .ensures ∙ sym (heading-given bytes rows (none (c .before .before .before .before .before .before))),
+      c .before .before .before .before .before .heading-of .ensures
+          ∙ sym (heading-given bytes rows (none (c .before .before .before .before .before .before))),
       c .before .before .write-rows .ensures
           ∙ ap (λ (n : ℕ). front n (headingRow bytes) rows) (n-of (c .before .before .before .before .before))
           ∙ sym (heading-written bytes rows (none (c .before .before .before .before .before .before))),

@@ -1,5 +1,5 @@
--- `runfile::read_table` meets its contract: the refusal is made first, and a table that is not refused has its rows in the bytes and
--- room in the slice. Assumes nothing.
+-- `runfile::read_table` meets its contract: the refusal is made first, and a table that is not refused has its rows
+-- in the bytes and room in the slice. Assumes nothing.
 use mathlib.Core.Path.{_≡_, sym, ap, _∙_}
 use Prim.Native.Nat.{ℕ}
 use native.Mathlib.Omega.{arith}
@@ -26,7 +26,8 @@ read : (c : tie.Else1) →
     TableAccepted (start-of c .args .n) (start-of c .args .bytes .now) (length (start-of c .args .rows .now))
 read c = table-accepted _ _ _ (none c)
 
-rows-of : (c : tie.After-table-rows) → c .table-rows .result ≡ tableRows (c .before .before .before .before .before .args .n)
+rows-of : (c : tie.After-table-rows) →
+    c .table-rows .result ≡ tableRows (c .before .before .before .before .before .args .n)
 rows-of c = c .table-rows .ensures ∙ by-n-inside tableRows _ (read (c .before) .inside)
 
 table-refusal-requires : tie.Need-table-refusal-requires
@@ -41,7 +42,8 @@ table-rows-requires : tie.Need-table-rows-requires
 table-rows-requires c κs = search needs
 
 write-rows-requires : tie.Need-write-rows-requires
-write-rows-requires c κs = omega (arith, rows-of (c .before), read (c .before .before) .exact, read (c .before .before) .enough)
+write-rows-requires c κs =
+    omega (arith, rows-of (c .before), read (c .before .before) .exact, read (c .before .before) .enough)
 
 same-length : tie.Need-same-length
 same-length c = search needs

@@ -1,4 +1,5 @@
--- `runfile::t_of` meets its contract: 255 stands for the largest t, which is the formula inside 1 to 13. Assumes nothing.
+-- `runfile::t_of` meets its contract: 255 stands for the largest t, which is the formula inside 1 to 13. Assumes
+-- nothing.
 use mathlib.Core.Path.{_∙_, sym}
 use borrow.Author.Tests.{eq-eqb, ne-eqb}
 use Rattle.counting.proofs.Bools.{cond-true, cond-false}

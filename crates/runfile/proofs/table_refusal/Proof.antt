@@ -1,4 +1,5 @@
--- `runfile::table_refusal` meets its contract: it makes the tests of refusals 4, 8 and 10 in their order. Assumes nothing.
+-- `runfile::table_refusal` meets its contract: it makes the tests of refusals 4, 8 and 10 in their order. Assumes
+-- nothing.
 use mathlib.Core.Path.{_≡_, sym, ap, _∙_}
 use mathlib.Core.Bool.{false}
 use mathlib.Core.List.{[]}
@@ -37,7 +38,8 @@ passed-4 c = passed 4 _ (inside-of c)
 passed-8 : (c : tie.Else2) → Passed (c .before .before .before .before .before) 2
 unfolding tableTests
 passed-8 c =
-    passed-4 (c .before .before) ∙ passed 8 _ (not-of-true (eq-eqb _ _ (c .if2 .left ∙ ap (λ (m : ℕ). 8 * m) (rows-of (c .before)))))
+    passed-4 (c .before .before)
+    ∙ passed 8 _ (not-of-true (eq-eqb _ _ (c .if2 .left ∙ ap (λ (m : ℕ). 8 * m) (rows-of (c .before)))))
 
 is-outside-requires : tie.Need-is-outside-requires
 is-outside-requires c κs = search needs
@@ -57,17 +59,20 @@ unfolding tableRefusal tableTests
 returns-2 c =
     sym
     (passed-4 (c .before .before)
-    ∙ refused 8 _ (not-of-false (ne-eqb _ _ (λ e. c .if2 .taken (e ∙ ap (λ (m : ℕ). 8 * m) (sym (rows-of (c .before))))))))
+    ∙ refused 8 _
+    (not-of-false (ne-eqb _ _ (λ e. c .if2 .taken (e ∙ ap (λ (m : ℕ). 8 * m) (sym (rows-of (c .before))))))))
 
 returns-3 : tie.Need-returns-3
 unfolding tableRefusal tableTests
 returns-3 c =
-    sym (passed-8 (c .before) ∙ refused 10 _ (ap (ltb _) (sym (rows-of (c .before .before))) ∙ lt-ltb _ _ (c .if3 .taken)))
+    sym (passed-8 (c .before)
+    ∙ refused 10 _ (ap (ltb _) (sym (rows-of (c .before .before))) ∙ lt-ltb _ _ (c .if3 .taken)))
 
 returns-4 : tie.Need-returns-4
 unfolding tableTests firstOf
 returns-4 c =
-    sym (passed-8 (c .before) ∙ passed 10 [] (ap (ltb _) (sym (rows-of (c .before .before))) ∙ le-ltb _ _ (c .if3 .left)))
+    sym (passed-8 (c .before)
+    ∙ passed 10 [] (ap (ltb _) (sym (rows-of (c .before .before))) ∙ le-ltb _ _ (c .if3 .left)))
 
 pub table-refusal-spec : {M : Type 1} → statement M
 table-refusal-spec =

@@ -66,7 +66,14 @@ same-length c = simp length-set
 
 returns : tie.Need-returns
 unfolding fourFrom
-returns c = rw (c .before .before .before .number8 .ensures, c .before .before .number82 .ensures, c .before .number83 .ensures, c .number84 .ensures) refl
+returns c =
+    rw (
+      c .before .before .before .number8 .ensures,
+      c .before .before .number82 .ensures,
+      c .before .number83
+          .ensures,
+      c .number84 .ensures,
+    ) refl
 
 pub write-four-spec : {M : Type 1} → statement M
 write-four-spec =

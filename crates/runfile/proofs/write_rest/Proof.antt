@@ -1,5 +1,5 @@
--- `runfile::write_rest` meets its contract: after each turn the rows before k stand at the front, if those before the start did. The slice keeps
--- its length, and what is left of the count falls. Assumes nothing.
+-- `runfile::write_rest` meets its contract: after each turn the rows before k stand at the front, if those before the
+-- start did. The slice keeps its length, and what is left of the count falls. Assumes nothing.
 use mathlib.Core.Path.{_≡_, refl}
 use mathlib.Core.List.{List}
 use Prim.Native.Nat.{ℕ, _≤_, _-_}
@@ -16,7 +16,8 @@ abbrev Inv-loop : tie.InvT-loop
 Inv-loop bytes at from count rows₀ k₀ rows k =
     (k ≤ count) ×
     (length rows ≡ length rows₀) ×
-    ((xs : List ℕ) → length xs ≡ length rows₀ → rows₀ ≡ front from (rowFrom at bytes) xs → rows ≡ front k (rowFrom at bytes) xs)
+    ((xs : List ℕ) → length xs ≡ length rows₀ → rows₀ ≡ front from (rowFrom at bytes) xs →
+    rows ≡ front k (rowFrom at bytes) xs)
 
 abbrev μ-loop : tie.MeasureT-loop
 μ-loop bytes at from count rows₀ k₀ rows k = count - k
@@ -50,7 +51,8 @@ unfolding rowFrom
 loop-again c = (
   search needs,
   simp length-set (c .before .before .loop .inv .1),
-  λ xs l e. front-turn _ _ xs _ (omega (arith, c .before .before .before .before .before .pre .2)) (c .before .before .loop .inv .2 xs l e) (c .number8 .ensures),
+  λ xs l e. front-turn _ _ xs _ (omega (arith, c .before .before .before .before .before .pre .2))
+      (c .before .before .loop .inv .2 xs l e) (c .number8 .ensures),
 )
 
 same-length : tie.Need-same-length Inv-loop μ-loop

@@ -1,5 +1,5 @@
--- `runfile::write_rows` meets its contract: after each turn the first k rows stand at the front of the slice, whose length stays; the rest follow
--- one by one. What is left of the count falls. Assumes nothing.
+-- `runfile::write_rows` meets its contract: after each turn the first k rows stand at the front of the slice, whose
+-- length stays; the rest follow one by one. What is left of the count falls. Assumes nothing.
 use mathlib.Core.Path.{_≡_, refl, sym, ap, _∙_}
 use Prim.Native.Nat.{ℕ, _+_, _*_, _≤_, _-_}
 use native.Mathlib.Omega.{arith}
@@ -12,7 +12,8 @@ use Rattle.runfile.proofs.write_rows.Statement.{statement}
 use Rattle.runfile.proofs.write_rows.Tie as tie
 
 abbrev Inv-loop : tie.InvT-loop
-Inv-loop bytes at count rows₀ k₀ rows k = (k ≤ count) × (length rows ≡ length rows₀) × (rows ≡ front k (rowFrom at bytes) rows₀)
+Inv-loop bytes at count rows₀ k₀ rows k =
+    (k ≤ count) × (length rows ≡ length rows₀) × (rows ≡ front k (rowFrom at bytes) rows₀)
 
 abbrev μ-loop : tie.MeasureT-loop
 μ-loop bytes at count rows₀ k₀ rows k = count - k
@@ -30,7 +31,8 @@ add-write-four : tie.Need-add-write-four Inv-loop μ-loop
 add-write-four c = omega (arith, c .before .before .before .before .pre .0)
 
 write-four-requires : tie.Need-write-four-requires Inv-loop μ-loop
-write-four-requires c κs = omega (arith, c .before .before .before .before .before .pre, c .before .before .loop .inv .1)
+write-four-requires c κs =
+    omega (arith, c .before .before .before .before .before .pre, c .before .before .loop .inv .1)
 
 add-k : tie.Need-add-k Inv-loop μ-loop
 add-k c = search needs
@@ -50,18 +52,25 @@ loop-again c =
       search needs,
       c .before .before .write-four .kept .1 .1 .0 ∙ c .before .before .before .before .before .loop .inv .1,
       c .before .before .write-four .ensures
-          ∙ front-four k (rowFrom (a .at) bytes) (a .rows .now) _ (omega (arith, c .before .before .before .before .before .before .before .before .pre .1)) (c .before .before .before .before .before .loop .inv .2) refl
-          (ap (λ (m : ℕ). number bytes m 8) e1) (ap (λ (m : ℕ). number bytes m 8) e2) (ap (λ (m : ℕ). number bytes m 8) e3),
+          ∙ front-four k (rowFrom (a .at) bytes) (a .rows .now) _
+          (omega (arith, c .before .before .before .before .before .before .before .before .pre .1))
+          (c .before .before .before .before .before .loop .inv .2) refl
+          (ap (λ (m : ℕ). number bytes m 8) e1) (ap (λ (m : ℕ). number bytes m 8) e2)
+          (ap (λ (m : ℕ). number bytes m 8) e3),
     )
 
 write-rest-requires : tie.Need-write-rest-requires Inv-loop μ-loop
-write-rest-requires c κs = omega (arith, c .before .before .before .before .before .pre, c .before .before .loop .inv .1)
+write-rest-requires c κs =
+    omega (arith, c .before .before .before .before .before .pre, c .before .before .loop .inv .1)
 
 same-length : tie.Need-same-length Inv-loop μ-loop
-same-length c = c .before .before .write-rest .kept .1 .1 .1 .1 .0 ∙ c .before .before .before .before .before .loop .inv .1
+same-length c =
+    c .before .before .write-rest .kept .1 .1 .1 .1 .0 ∙ c .before .before .before .before .before .loop .inv .1
 
 returns : tie.Need-returns Inv-loop μ-loop
-returns c = c .before .before .write-rest .ensures _ (sym (c .before .before .before .before .before .loop .inv .1)) (c .before .before .before .before .before .loop .inv .2)
+returns c =
+    c .before .before .write-rest .ensures _ (sym (c .before .before .before .before .before .loop .inv .1))
+    (c .before .before .before .before .before .loop .inv .2)
 
 pub write-rows-spec : {M : Type 1} → statement M
 write-rows-spec =

@@ -1,4 +1,5 @@
--- `sizes::is_member` meets its contract: the code and the definition test the same bit, and from place 16 on there is none. Assumes nothing.
+-- `sizes::is_member` meets its contract: the code and the definition test the same bit, and from place 16 on there is
+-- none. Assumes nothing.
 use mathlib.Core.Path.{_≡_, sym, _∙_}
 use native.Mathlib.Omega.{arith}
 use Rattle.counting.specs.Sets.{member}

@@ -1,4 +1,5 @@
--- `sizes::is_stray` meets its contract: a set shifted by n is 0 exactly where it is below 2 ^ n, and 16 bits are below 2 ^ 16. Assumes nothing.
+-- `sizes::is_stray` meets its contract: a set shifted by n is 0 exactly where it is below 2 ^ n, and 16 bits are
+-- below 2 ^ 16. Assumes nothing.
 use mathlib.Core.Path.{_≡_, sym, _∙_}
 use native.Mathlib.Omega.{arith}
 use Rattle.sizes.proofs.Laws.{shifted, no-stray}

@@ -25,7 +25,8 @@ unfolding sizeRefusal
 returns-3 c =
     sym
     (passed 4 _ (inside (c .before .before .before .args .n) (search needs) (search needs))
-    ∙ refused 5 _ (not-tolerated (c .before .before .before .args .n) (c .before .before .before .args .t) (search needs)))
+    ∙ refused 5 _
+    (not-tolerated (c .before .before .before .args .n) (c .before .before .before .args .t) (search needs)))
 
 returns-4 : tie.Need-returns-4
 unfolding sizeRefusal firstOf

@@ -43,7 +43,8 @@ returns-2 : tie.Need-returns-2
 returns-2 c =
     let f = c .before .before in
     let s = f .support-of in
-    takes-lead _ (start-of f .args .lead) _ _ (s .ensures) (before-more _ _ _ (omega (arith, own f, s .ensures, c .if2 .taken)))
+    takes-lead _ (start-of f .args .lead) _ _ (s .ensures)
+    (before-more _ _ _ (omega (arith, own f, s .ensures, c .if2 .taken)))
 
 returns-3 : tie.Need-returns-3
 returns-3 c =
@@ -62,7 +63,8 @@ returns-4 : tie.Need-returns-4
 returns-4 c =
     let e = c .before .before in
     let s = even-of e .support-of in
-    takes-lead _ (start-of (even-of e) .args .lead) _ _ (s .ensures) (level (even-of e) (even e) ∙ lt-ltb _ _ (c .if4 .taken))
+    takes-lead _ (start-of (even-of e) .args .lead) _ _ (s .ensures)
+    (level (even-of e) (even e) ∙ lt-ltb _ _ (c .if4 .taken))
 
 returns-5 : tie.Need-returns-5
 returns-5 c =

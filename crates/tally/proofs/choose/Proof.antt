@@ -1,5 +1,5 @@
--- `tally::choose` meets its contract: it refuses by 4, 11 and 13, and otherwise the lead of the counted rows is the chosen
--- row, whose firm leaders it counts. Assumes nothing.
+-- `tally::choose` meets its contract: it refuses by 4, 11 and 13, and otherwise the lead of the counted rows is the
+-- chosen row, whose firm leaders it counts. Assumes nothing.
 use mathlib.Core.Path.{_≡_, sym, _∙_, subst}
 use mathlib.Core.List.{List}
 use Prim.Native.Nat.{ℕ, _≤_}
@@ -10,7 +10,14 @@ use Rattle.counting.specs.Most.{most}
 use Rattle.tally.specs.Tally.{chosenRow}
 use Rattle.tally.specs.Reply.{choiceRefusal}
 use Rattle.tally.specs.Inside.{leadOf}
-use Rattle.tally.proofs.Replies.{choice-refused, choice-taken, choice-lengths, lead-chosen, firm-none, firm-some}
+use Rattle.tally.proofs.Replies.{
+  choice-refused,
+  choice-taken,
+  choice-lengths,
+  lead-chosen,
+  firm-none,
+  firm-some,
+}
 use borrow.Author.Needs.{needs}
 use Rattle.tally.proofs.choose.Statement.{statement}
 use Rattle.tally.proofs.choose.Tie as tie

@@ -1,5 +1,5 @@
--- `tally::firm_for` meets its contract: after i turns it has counted the leaders below i with confidence 2 that hold the
--- chosen row. What is left of the length falls. Assumes nothing.
+-- `tally::firm_for` meets its contract: after i turns it has counted the leaders below i with confidence 2 that hold
+-- the chosen row. What is left of the length falls. Assumes nothing.
 use mathlib.Core.Bool.{_&&_}
 use Prim.Native.Nat.{_-_}
 use native.Mathlib.Omega.{arith}

@@ -1,5 +1,5 @@
--- `tally::grade` meets its contract: it refuses by 4 and 5, and otherwise the lead of the rows is the row found most often
--- with its support, which gives the confidence. Assumes nothing.
+-- `tally::grade` meets its contract: it refuses by 4 and 5, and otherwise the lead of the rows is the row found most
+-- often with its support, which gives the confidence. Assumes nothing.
 use mathlib.Core.Path.{_≡_, sym, _∙_}
 use lib.ListN.{length}
 use Rattle.sizes.specs.Sizes.{sizeRefusal}

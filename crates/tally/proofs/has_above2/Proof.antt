@@ -1,5 +1,5 @@
--- `tally::has_above2` meets its contract: a turn ends the search at a confidence above 2, and otherwise none of the first
--- i + 1 is. What is left of the length falls. Assumes nothing.
+-- `tally::has_above2` meets its contract: a turn ends the search at a confidence above 2, and otherwise none of the
+-- first i + 1 is. What is left of the length falls. Assumes nothing.
 use Prim.Native.Nat.{_-_}
 use native.Mathlib.Omega.{arith}
 use lib.Dec.{ltb}

@@ -1,4 +1,5 @@
--- `tally::is_carried` meets its contract: 0 is never carried, and any other row where its places reach n − t. Assumes nothing.
+-- `tally::is_carried` meets its contract: 0 is never carried, and any other row where its places reach n − t. Assumes
+-- nothing.
 use mathlib.Core.Path.{refl, sym}
 use borrow.Author.Tests.{ne-eqb}
 use Rattle.tally.specs.Tally.{carried}

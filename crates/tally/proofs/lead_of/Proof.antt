@@ -1,6 +1,6 @@
--- `tally::lead_of` meets its contract: after i turns the lead is the best of the first i rows, with its support. A lead
--- with more than half of the places is the best of all, and so is one with more places than are left. What is left of
--- the length falls. Assumes nothing.
+-- `tally::lead_of` meets its contract: after i turns the lead is the best of the first i rows, with its support. A
+-- lead with more than half of the places is the best of all, and so is one with more places than are left. What is
+-- left of the length falls. Assumes nothing.
 use mathlib.Core.Path.{_≡_, refl}
 use Prim.Native.Nat.{_≤_, _+_, _-_}
 use native.Mathlib.Omega.{arith}

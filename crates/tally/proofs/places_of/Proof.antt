@@ -1,5 +1,5 @@
--- `tally::places_of` meets its contract: after i turns it has counted the places below i that hold v. What is left of the length
--- falls. Assumes nothing.
+-- `tally::places_of` meets its contract: after i turns it has counted the places below i that hold v. What is left of
+-- the length falls. Assumes nothing.
 use Prim.Native.Nat.{_-_}
 use native.Mathlib.Omega.{arith}
 use borrow.Author.Needs.{needs}

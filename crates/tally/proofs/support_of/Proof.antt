@@ -7,7 +7,9 @@ use Rattle.tally.proofs.support_of.Statement.{statement}
 use Rattle.tally.proofs.support_of.Tie as tie
 
 returns : tie.Need-returns
-returns c = sym (ap (support (c .before .before .args .rows .now)) (c .if1 .taken) ∙ support-zero (c .before .before .args .rows .now))
+returns c =
+    sym (ap (support (c .before .before .args .rows .now)) (c .if1 .taken)
+    ∙ support-zero (c .before .before .args .rows .now))
 
 places-of-requires : tie.Need-places-of-requires
 places-of-requires c κs = search needs

@@ -1,6 +1,6 @@
--- `tally::vote_of` meets its contract: none of the first i rows is carried, and i is at most t + 1, which is within the
--- length since 3t < n. The first carried row is the vote, since no other is; and where none of the first t + 1 rows is
--- carried no row is, and the vote is 0. What is left of t + 1 falls. Assumes nothing.
+-- `tally::vote_of` meets its contract: none of the first i rows is carried, and i is at most t + 1, which is within
+-- the length since 3t < n. The first carried row is the vote, since no other is; and where none of the first t + 1
+-- rows is carried no row is, and the vote is 0. What is left of t + 1 falls. Assumes nothing.
 use mathlib.Core.Path.{sym, _∙_}
 use Prim.Native.Nat.{_+_, _-_}
 use native.Mathlib.Omega.{arith}
