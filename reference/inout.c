@@ -58,7 +58,8 @@ void put_all(void)
     out_used = 0;
 }
 
-static void put_bytes(const char *bytes, size_t count)
+/* The count is at most what the buffer holds. */
+void put_bytes(const void *bytes, size_t count)
 {
     if (count > OUT_BYTES - out_used)
         put_all();
@@ -74,14 +75,8 @@ void put_word(const char *word)
 /* A space and the number in decimal. */
 void put_number(uint64_t number)
 {
-    char digits[21];
-    size_t first = sizeof digits;
-    do {
-        digits[--first] = (char)('0' + number % 10);
-        number /= 10;
-    } while (number != 0);
-    digits[--first] = ' ';
-    put_bytes(digits + first, sizeof digits - first);
+    char text[1 + MOST_DIGITS] = " ";
+    put_bytes(text, 1 + decimal(number, text + 1));
 }
 
 void put_end_of_line(void)

@@ -24,10 +24,16 @@ static int print_usage(void)
     return 0;
 }
 
+/* One byte more than the largest file has shows that a file goes on, so an endless one is read no further. */
 static int print_listing(const char *name)
 {
+    static uint8_t bytes[MOST_FILE + 1];
+    struct listing listing;
     read_from(name);
-    return list_run() == FINE ? 0 : 1;
+    list_file(bytes, take(bytes, sizeof bytes), &listing);
+    put_bytes(listing.text, listing.size);
+    put_all();
+    return listing.ends == FINE ? 0 : 1;
 }
 
 static int print_replies(void)

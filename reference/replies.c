@@ -1,10 +1,11 @@
 /* The replies to a stream of requests, in the format of docs/REQUESTS.md. */
 #include "notebook.h"
 
-enum { MOST_LENT = 5000, STATE_BYTES = 143 };
+enum { MOST_LENT = 5000, STATE_BYTES = 143, MOST_FILE_BYTES = 200000 };
 
-static uint8_t bytes[65536];
+static uint8_t bytes[MOST_FILE_BYTES];
 static uint64_t rows[MOST_LENT];
+static uint8_t text[MOST_LENT];
 
 /* Every `take_` below gives 0 where the input is cut short; then no line is printed. */
 static int take_number(size_t count, uint64_t *number)
@@ -16,37 +17,55 @@ static int take_number(size_t count, uint64_t *number)
     return 1;
 }
 
+static int take_bytes(uint64_t count)
+{
+    return count <= sizeof bytes && take(bytes, count) == count;
+}
+
+/* A length that has a limit: longer ones end the program like a request that is cut short. */
+static int take_length(size_t count, uint64_t most, uint64_t *length)
+{
+    return take_number(count, length) && *length <= most;
+}
+
 /* The count is at most 5,000: each caller's length is one byte or is tested first. */
 static int take_rows(size_t count)
 {
-    if (take(bytes, 8 * count) != 8 * count)
+    if (!take_bytes(8 * count))
         return 0;
     for (size_t i = 0; i < count; i++)
         rows[i] = big_endian(bytes + 8 * i, 8);
     return 1;
 }
 
-static int take_state(struct state *state)
+/* Thirteen rows and thirteen lists, which stand together wherever they stand. */
+static int take_boxes(struct state *state)
 {
-    uint8_t piece[STATE_BYTES];
-    if (take(piece, STATE_BYTES) != STATE_BYTES)
+    if (!take_bytes(10 * MOST_BOXES))
         return 0;
-    state->n = piece[0];
-    state->t = piece[1];
-    state->faulty = (uint16_t)big_endian(piece + 2, 2);
-    state->done = piece[4];
-    state->sent = big_endian(piece + 5, 8);
     for (size_t i = 0; i < MOST_BOXES; i++) {
-        state->row[i] = big_endian(piece + 13 + 8 * i, 8);
-        state->list[i] = (uint16_t)big_endian(piece + 13 + 8 * MOST_BOXES + 2 * i, 2);
+        state->row[i] = big_endian(bytes + 8 * i, 8);
+        state->list[i] = (uint16_t)big_endian(bytes + 8 * MOST_BOXES + 2 * i, 2);
     }
     return 1;
 }
 
-static void put_reply(const char *name, enum refusal refusal)
+static int take_state(struct state *state)
+{
+    if (!take_bytes(STATE_BYTES - 10 * MOST_BOXES))
+        return 0;
+    state->n = bytes[0];
+    state->t = bytes[1];
+    state->faulty = (uint16_t)big_endian(bytes + 2, 2);
+    state->done = bytes[4];
+    state->sent = big_endian(bytes + 5, 8);
+    return take_boxes(state);
+}
+
+static void put_reply(const char *name, uint64_t number)
 {
     put_word(name);
-    put_number(refusal);
+    put_number(number);
 }
 
 static void put_state(const struct state *state)
@@ -72,6 +91,19 @@ static void put_lent(size_t length)
 {
     for (size_t i = 0; i < length; i++)
         put_number(rows[i]);
+}
+
+/* A lent slice of bytes goes on with 0 after 255. */
+static void fill_text(size_t length)
+{
+    for (size_t i = 0; i < length; i++)
+        text[i] = (uint8_t)(i + 1);
+}
+
+static void put_text(size_t length)
+{
+    for (size_t i = 0; i < length; i++)
+        put_number(text[i]);
 }
 
 static int reply_vote(void)
@@ -102,7 +134,7 @@ static int reply_choice(void)
     struct choice answer;
     if (!take_number(1, &count) || !take_number(1, &confidence_count) || !take_rows(count))
         return 0;
-    if (take(bytes, confidence_count) != confidence_count)
+    if (!take_bytes(confidence_count))
         return 0;
     put_reply("choice", choice(rows, count, bytes, confidence_count, &answer));
     put_number(answer.row);
@@ -127,9 +159,7 @@ static int reply_iteration(void)
 {
     uint64_t count;
     struct state state;
-    if (!take_state(&state) || !take_number(2, &count))
-        return 0;
-    if (count > MOST_LENT || !take_rows(count))
+    if (!take_state(&state) || !take_length(2, MOST_LENT, &count) || !take_rows(count))
         return 0;
     put_reply("iteration", iterate(&state, rows, count));
     put_state(&state);
@@ -140,7 +170,7 @@ static int reply_heading(void)
 {
     uint64_t count, length;
     struct heading heading;
-    if (!take_number(1, &count) || !take_number(1, &length) || take(bytes, count) != count)
+    if (!take_number(1, &count) || !take_number(1, &length) || !take_bytes(count))
         return 0;
     fill_lent(length);
     put_reply("heading", read_heading(bytes, count, rows, length, &heading));
@@ -155,9 +185,7 @@ static int reply_heading(void)
 static int reply_table(void)
 {
     uint64_t n, count, length;
-    if (!take_number(1, &n) || !take_number(2, &count) || !take_number(2, &length))
-        return 0;
-    if (length > MOST_LENT || take(bytes, count) != count)
+    if (!take_number(1, &n) || !take_number(2, &count) || !take_length(2, MOST_LENT, &length) || !take_bytes(count))
         return 0;
     fill_lent(length);
     put_reply("table", read_table((uint8_t)n, bytes, count, rows, length));
@@ -165,18 +193,176 @@ static int reply_table(void)
     return 1;
 }
 
+static int reply_largest(void)
+{
+    uint64_t n;
+    if (!take_number(1, &n))
+        return 0;
+    put_reply("largest", largest_t((unsigned)n));
+    return 1;
+}
+
+static int reply_rows(void)
+{
+    uint64_t n;
+    if (!take_number(1, &n))
+        return 0;
+    put_reply("rows", table_rows((unsigned)n));
+    return 1;
+}
+
+static int reply_sizes(void)
+{
+    uint64_t n, t;
+    if (!take_number(8, &n) || !take_number(1, &t))
+        return 0;
+    put_reply("sizes", check_n_t(n, (unsigned)t));
+    return 1;
+}
+
+static int reply_member(void)
+{
+    uint64_t set, box;
+    if (!take_number(2, &set) || !take_number(8, &box))
+        return 0;
+    put_reply("member", (uint64_t)in_set((unsigned)set, box));
+    return 1;
+}
+
+static int reply_stray(void)
+{
+    uint64_t n, set;
+    if (!take_number(1, &n) || !take_number(2, &set))
+        return 0;
+    put_reply("stray", (uint64_t)has_stray_bit((unsigned)n, (unsigned)set));
+    return 1;
+}
+
+static int reply_zero(void)
+{
+    uint64_t faulty, box, row;
+    if (!take_number(2, &faulty) || !take_number(8, &box) || !take_number(8, &row))
+        return 0;
+    put_reply("zero", (uint64_t)is_sound_zero((unsigned)faulty, box, row));
+    return 1;
+}
+
+static int reply_steps(void)
+{
+    uint64_t n, t, faulty, count;
+    struct state state = {0};
+    struct cast cast;
+    if (!take_number(8, &n) || !take_number(1, &t) || !take_number(2, &faulty) || !take_boxes(&state))
+        return 0;
+    if (!take_length(2, MOST_LENT, &count) || !take_rows(count))
+        return 0;
+    state.t = (uint8_t)t;
+    state.faulty = (uint16_t)faulty;
+    put_reply("steps", steps(n, &state, rows, count, &cast));
+    put_number(cast.messages);
+    for (size_t i = 0; i < MOST_BOXES * MOST_BOXES; i++)
+        put_number(cast.row[i]);
+    for (size_t i = 0; i < MOST_BOXES * MOST_BOXES; i++)
+        put_number(cast.confidence[i]);
+    return 1;
+}
+
+/* The length of the lent slice, which is filled, and the line that is to be written into it. */
+static int take_line(uint64_t *length, struct line *line)
+{
+    static uint8_t word[255];
+    uint64_t word_bytes, count;
+    if (!take_length(2, MOST_LENT, length) || !take_number(1, &word_bytes) || !take_number(1, &count))
+        return 0;
+    if (take(word, word_bytes) != word_bytes || !take_rows(count))
+        return 0;
+    *line = (struct line){word, word_bytes, rows, count};
+    fill_text(*length);
+    return 1;
+}
+
+static int reply_line(void)
+{
+    uint64_t length;
+    size_t size;
+    struct line line;
+    if (!take_line(&length, &line))
+        return 0;
+    put_reply("line", write_line(text, length, &line, &size));
+    put_number(size);
+    put_text(length);
+    return 1;
+}
+
+static int reply_put(void)
+{
+    uint64_t place, length;
+    struct line line;
+    if (!take_number(8, &place) || !take_line(&length, &line))
+        return 0;
+    put_reply("put", write_line_at(text, length, place, &line));
+    put_text(length);
+    return 1;
+}
+
+static int reply_part(void)
+{
+    uint64_t from, count, bytes_count, length;
+    if (!take_number(8, &from) || !take_number(8, &count) || !take_number(2, &bytes_count))
+        return 0;
+    if (!take_length(2, MOST_LENT, &length) || !take_bytes(bytes_count))
+        return 0;
+    fill_lent(length);
+    put_reply("part", read_part(bytes, bytes_count, from, count, rows, length));
+    put_lent(length);
+    return 1;
+}
+
+static int reply_listing(void)
+{
+    uint64_t length, count;
+    struct listing listing;
+    if (!take_length(2, MOST_LENT, &length) || !take_length(4, MOST_FILE_BYTES, &count) || !take_bytes(count))
+        return 0;
+    fill_text(length);
+    put_reply("listing", list_into(bytes, count, text, length, &listing));
+    put_number(listing.size);
+    put_number(listing.ends);
+    put_text(length);
+    return 1;
+}
+
+static int reply_outcome(void)
+{
+    uint64_t count;
+    struct state state;
+    if (!take_length(4, MOST_FILE_BYTES, &count) || !take_bytes(count))
+        return 0;
+    put_reply("outcome", outcome(bytes, count, &state));
+    put_state(&state);
+    return 1;
+}
+
+static int reply_none(void)
+{
+    struct state state = {0};
+    put_word("none");
+    put_state(&state);
+    return 1;
+}
+
+/* In the order of their kinds, which begin with 1. */
+static int (*const REPLIES[])(void) = {
+    reply_vote, reply_grade, reply_choice, reply_start, reply_iteration, reply_heading, reply_table, reply_largest,
+    reply_rows, reply_sizes, reply_member, reply_stray, reply_zero, reply_steps, reply_line, reply_put, reply_part,
+    reply_listing, reply_outcome, reply_none
+};
+
 static int reply_to(uint64_t kind)
 {
-    switch (kind) {
-    case 1: return reply_vote();
-    case 2: return reply_grade();
-    case 3: return reply_choice();
-    case 4: return reply_start();
-    case 5: return reply_iteration();
-    case 6: return reply_heading();
-    case 7: return reply_table();
-    default: return 0;
-    }
+    if (kind < 1 || kind > sizeof REPLIES / sizeof REPLIES[0])
+        return 0;
+    return REPLIES[kind - 1]();
 }
 
 void answer_requests(void)

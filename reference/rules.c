@@ -3,6 +3,12 @@
 
 #include <string.h>
 
+enum { SET_BITS = 16 };
+
+/* The two rows of constants. Place n is for n boxes, and there is no run with 0 boxes. */
+static const uint8_t LARGEST_TS[] = {0, 0, 0, 0, 1, 1, 1, 2, 2, 2, 3, 3, 3, 4};
+static const uint16_t TABLE_ROWS[] = {0, 3, 20, 63, 144, 275, 468, 735, 1088, 1539, 2100, 2783, 3600, 4563};
+
 /* What every box sends to every box in step 2 or 3: [sender][leader] for the sound senders. */
 typedef uint64_t sendings[MOST_BOXES][MOST_BOXES];
 
@@ -11,17 +17,28 @@ typedef uint64_t hearings[MOST_BOXES][MOST_BOXES];
 
 size_t table_rows(unsigned n)
 {
-    return (size_t)n * n + 2 * (size_t)n * n * n;
+    return n <= MOST_BOXES ? TABLE_ROWS[n] : 0;
 }
 
 unsigned largest_t(unsigned n)
 {
-    return (n - 1) / 3;
+    return n <= MOST_BOXES ? LARGEST_TS[n] : 0;
 }
 
-static int in_set(unsigned set, unsigned box)
+/* C gives no meaning to a shift by more bits than a number has, so the place is tested first, here and below. */
+int in_set(unsigned set, uint64_t box)
 {
-    return (set >> box) & 1;
+    return box < SET_BITS && (set >> box) & 1;
+}
+
+int has_stray_bit(unsigned n, unsigned set)
+{
+    return n < SET_BITS && set >> n != 0;
+}
+
+int is_sound_zero(unsigned faulty, uint64_t box, uint64_t row)
+{
+    return !in_set(faulty, box) && row == 0;
 }
 
 static unsigned places_of(const uint64_t *rows, unsigned n, uint64_t row)
@@ -96,7 +113,7 @@ static struct choice choice_over(const uint64_t *rows, const uint8_t *confidence
     return answer;
 }
 
-static enum refusal check_n_t(size_t n, unsigned t)
+enum refusal check_n_t(uint64_t n, unsigned t)
 {
     if (n < 1 || n > MOST_BOXES)
         return WRONG_N;
@@ -142,7 +159,7 @@ enum refusal choice(const uint64_t *rows, size_t count, const uint8_t *confidenc
 static int sound_row_is_zero(const uint64_t *rows, unsigned n, unsigned faulty)
 {
     for (unsigned i = 0; i < n; i++)
-        if (!in_set(faulty, i) && rows[i] == 0)
+        if (is_sound_zero(faulty, i, rows[i]))
             return 1;
     return 0;
 }
@@ -150,7 +167,7 @@ static int sound_row_is_zero(const uint64_t *rows, unsigned n, unsigned faulty)
 static enum refusal check_n_t_faulty(unsigned n, unsigned t, unsigned faulty)
 {
     enum refusal refusal = check_n_t(n, t);
-    if (refusal == FINE && faulty >> n != 0)
+    if (refusal == FINE && has_stray_bit(n, faulty))
         return STRAY_FAULTY_BIT;
     return refusal;
 }
@@ -180,7 +197,7 @@ static int state_is_wrong(const struct state *state)
         int sound = i < state->n && !in_set(state->faulty, i);
         if (!sound && (state->row[i] != 0 || state->list[i] != 0))
             return 1;
-        if (state->list[i] >> state->n != 0)
+        if (has_stray_bit(state->n, state->list[i]))
             return 1;
     }
     return state->sent > state->done * (uint64_t)table_rows(state->n);
@@ -234,26 +251,9 @@ static void hear_all(const struct state *state, sendings sent, const uint64_t *t
     }
 }
 
-/* Step 5 for box i: its new row, and the leaders that join its list. */
-static void finish_box(struct state *next, unsigned i, hearings heard)
-{
-    uint64_t rows[MOST_BOXES];
-    uint8_t confidences[MOST_BOXES];
-    unsigned n = next->n;
-    for (unsigned k = 0; k < n; k++) {
-        struct grade answer = grade_over(heard[k], n, next->t);
-        rows[k] = answer.row;
-        confidences[k] = answer.confidence;
-        if (answer.confidence < 2)
-            next->list[i] |= (uint16_t)(1u << k);
-    }
-    struct choice chosen = choice_over(rows, confidences, n);
-    if (chosen.row != 0)
-        next->row[i] = chosen.row;
-}
-
-/* Steps 1 and 2: fills `first` with what each sound box heard in step 1, and counts what steps 1 and 2 send. */
-static void step_one(struct state *state, const uint64_t *table, sendings first)
+/* Steps 1 and 2: fills `first` with what each sound box heard in step 1, and counts what steps 1 and 2 send. A row of
+   0 is no message; no iteration begins with one, but steps 1 to 4 by themselves may. */
+static uint64_t step_one(const struct state *state, const uint64_t *table, sendings first)
 {
     unsigned n = state->n;
     uint64_t sent = 0;
@@ -261,43 +261,96 @@ static void step_one(struct state *state, const uint64_t *table, sendings first)
         if (in_set(state->faulty, i))
             continue;
         hear_rows(state, table, i, first[i]);
-        sent += n + messages_of(first[i], n);
+        unsigned own = state->row[i] != 0 ? n : 0;
+        sent += own + messages_of(first[i], n);
     }
-    state->sent += sent;
+    return sent;
 }
 
 /* Step 3: fills `second` with the votes of each sound box, and counts them as they are sent. */
-static void step_three(struct state *state, const uint64_t *table, sendings first, sendings second)
+static uint64_t step_three(const struct state *state, const uint64_t *table, sendings first, sendings second)
 {
     hearings heard;
     unsigned n = state->n;
+    uint64_t sent = 0;
     for (unsigned i = 0; i < n; i++) {
         if (in_set(state->faulty, i))
             continue;
         hear_all(state, first, table, i, heard);
         for (unsigned k = 0; k < n; k++)
             second[i][k] = vote_over(heard[k], n, state->t);
-        state->sent += messages_of(second[i], n);
+        sent += messages_of(second[i], n);
     }
+    return sent;
 }
 
-/* A box's list and row change only in step 5, after all that the box itself heard, and nobody else reads its list. */
-enum refusal iterate(struct state *state, const uint64_t *table, size_t count)
+/* Step 4: the grade of each leader by each sound box. The faulty boxes' places are left as they are. */
+static void step_four(const struct state *state, const uint64_t *table, sendings second, struct cast *cast)
 {
-    enum refusal refusal = check_iteration(state, count);
-    if (refusal != FINE)
-        return refusal;
-    sendings first, second;
     hearings heard;
-    size_t n = state->n;
-    step_one(state, table, first);
-    step_three(state, table + n * n, first, second);
+    unsigned n = state->n;
     for (unsigned i = 0; i < n; i++) {
         if (in_set(state->faulty, i))
             continue;
-        hear_all(state, second, table + n * n + n * n * n, i, heard);
-        finish_box(state, i, heard);
+        hear_all(state, second, table, i, heard);
+        for (unsigned k = 0; k < n; k++) {
+            struct grade answer = grade_over(heard[k], n, state->t);
+            cast->row[i * n + k] = answer.row;
+            cast->confidence[i * n + k] = answer.confidence;
+        }
     }
+}
+
+/* The lists in force are those of the state, which changes in step 5 alone. */
+static void steps_over(const struct state *state, const uint64_t *table, struct cast *cast)
+{
+    sendings first, second;
+    size_t n = state->n;
+    cast->messages = step_one(state, table, first);
+    cast->messages += step_three(state, table + n * n, first, second);
+    step_four(state, table + n * n + n * n * n, second, cast);
+}
+
+/* The number of boxes comes apart from the state, which has no room for every number that may be asked. */
+enum refusal steps(uint64_t n, const struct state *from, const uint64_t *table, size_t count, struct cast *cast)
+{
+    memset(cast, 0, sizeof *cast);
+    enum refusal refusal = check_n_t(n, from->t);
+    if (refusal != FINE)
+        return refusal;
+    if (count != table_rows((unsigned)n))
+        return WRONG_LENGTH;
+    struct state state = *from;
+    state.n = (uint8_t)n;
+    steps_over(&state, table, cast);
+    return FINE;
+}
+
+/* Step 5 for box i: its new row, and the leaders that join its list. */
+static void step_five(struct state *next, unsigned i, const struct cast *cast)
+{
+    unsigned n = next->n;
+    const uint64_t *rows = cast->row + i * n;
+    const uint8_t *confidences = cast->confidence + i * n;
+    for (unsigned k = 0; k < n; k++)
+        if (confidences[k] < 2)
+            next->list[i] |= (uint16_t)(1u << k);
+    struct choice chosen = choice_over(rows, confidences, n);
+    if (chosen.row != 0)
+        next->row[i] = chosen.row;
+}
+
+enum refusal iterate(struct state *state, const uint64_t *table, size_t count)
+{
+    struct cast cast;
+    enum refusal refusal = check_iteration(state, count);
+    if (refusal != FINE)
+        return refusal;
+    steps_over(state, table, &cast);
+    for (unsigned i = 0; i < state->n; i++)
+        if (!in_set(state->faulty, i))
+            step_five(state, i, &cast);
+    state->sent += cast.messages;
     state->done++;
     return FINE;
 }

@@ -3,7 +3,7 @@
 
 #include <string.h>
 
-enum { MARK_BYTES = 9, ROW_BYTES = 8, LARGEST_T = 255 };
+enum { LARGEST_T = 255 };
 
 uint64_t big_endian(const uint8_t *bytes, size_t count)
 {
@@ -30,7 +30,7 @@ static enum refusal read_mark(const uint8_t *bytes, size_t count, struct heading
     if (3 * heading->t >= heading->n)
         return WRONG_T;
     heading->faulty = (uint16_t)big_endian(bytes + 7, 2);
-    if (heading->faulty >> heading->n != 0)
+    if (has_stray_bit(heading->n, heading->faulty))
         return STRAY_FAULTY_BIT;
     return FINE;
 }
@@ -39,11 +39,9 @@ static enum refusal check_rows(const uint8_t *bytes, size_t count, size_t length
 {
     if (count < MARK_BYTES + (size_t)ROW_BYTES * heading->n)
         return WRONG_BYTES;
-    for (unsigned i = 0; i < heading->n; i++) {
-        int sound = ((heading->faulty >> i) & 1) == 0;
-        if (sound && big_endian(bytes + MARK_BYTES + ROW_BYTES * i, ROW_BYTES) == 0)
+    for (unsigned i = 0; i < heading->n; i++)
+        if (is_sound_zero(heading->faulty, i, big_endian(bytes + MARK_BYTES + ROW_BYTES * i, ROW_BYTES)))
             return ZERO_ROW;
-    }
     return length < heading->n ? SLICE_TOO_SHORT : FINE;
 }
 
@@ -75,5 +73,22 @@ enum refusal read_table(uint8_t n, const uint8_t *bytes, size_t count, uint64_t 
     if (length < table_rows(n))
         return SLICE_TOO_SHORT;
     read_rows(bytes, table_rows(n), slice);
+    return FINE;
+}
+
+/* The sum of both numbers may be larger than 64 bits hold, so neither is added before it is known to be small. */
+static int reaches(uint64_t places, uint64_t from, uint64_t count)
+{
+    return from <= places && count <= places - from;
+}
+
+enum refusal read_part(const uint8_t *bytes, size_t bytes_count, uint64_t from, uint64_t count, uint64_t *slice,
+                       size_t length)
+{
+    if (!reaches(bytes_count / ROW_BYTES, from, count))
+        return WRONG_BYTES;
+    if (!reaches(length, from, count))
+        return SLICE_TOO_SHORT;
+    read_rows(bytes + ROW_BYTES * from, (size_t)count, slice + from);
     return FINE;
 }

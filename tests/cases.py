@@ -2,8 +2,9 @@
 
 import struct
 
-from asking import Request, packed
-from runfiles import Table, case_s_table, heading_bytes
+from calls import Request, packed, state_bytes, state_line
+from further import steps_bytes, steps_line, steps_refused
+from runfiles import TOP, Table, case_s_table, heading_bytes
 
 TANK = 2**32
 
@@ -40,11 +41,6 @@ def choices():
     yield bytes((3, 2, 2)) + packed([0, 6]) + bytes((2, 0)), "choice 0 0 0"
 
 
-def state_line(name, refusal, n, t, faulty, done, sent, rows, lists):
-    rows, lists = rows + [0] * (13 - len(rows)), lists + [0] * (13 - len(lists))
-    return " ".join(str(number) for number in (name, refusal, n, t, faulty, done, sent, *rows, *lists))
-
-
 def sizes():
     """What passes and what is refused at the edges of n and t."""
     zeros = state_line("start", 0, 0, 0, 0, 0, 0, [], [])
@@ -59,8 +55,7 @@ def sizes():
 
 
 def iteration(n, t, faulty, done, sent, rows, lists, table):
-    rows, lists = rows + [0] * (13 - len(rows)), lists + [0] * (13 - len(lists))
-    state = struct.pack(">BBHBQ13Q13H", n, t, faulty, done, sent, *rows, *lists)
+    state = state_bytes(n, t, faulty, done, sent, rows, lists)
     return b"\5" + state + struct.pack(">H", len(table.rows)) + packed(table.rows)
 
 
@@ -74,7 +69,135 @@ def iterations():
     yield (iteration(4, 1, 8, 2, 184, *steps[2], Table(4)), state_line("iteration", 12, 4, 1, 8, 2, 184, *steps[2]))
 
 
+def wide_states():
+    """A row of 2^32 is a sound box's row like any other, and is not nothing in an unused or a faulty place."""
+    one = [5]
+    for at in (1, 12):
+        rows = one + [0] * (at - 1) + [TANK]
+        yield iteration(1, 0, 0, 0, 0, rows, [], Table(1)), state_line("iteration", 14, 1, 0, 0, 0, 0, rows, [])
+    yield iteration(2, 0, 2, 0, 0, [5, TANK], [], Table(2)), state_line("iteration", 14, 2, 0, 2, 0, 0, [5, TANK], [])
+    yield iteration(1, 0, 0, 0, TANK, one, [], Table(1)), state_line("iteration", 14, 1, 0, 0, 0, TANK, one, [])
+    yield iteration(1, 0, 0, 0, 0, [TANK], [], Table(1)), state_line("iteration", 0, 1, 0, 0, 1, 3, [TANK], [])
+    yield struct.pack(">BBBHB", 4, 1, 0, 0, 1) + packed([TANK]), state_line("start", 0, 1, 0, 0, 0, 0, [TANK], [])
+
+
+# The two rows of constants, for n from 1 to 13.
+LARGEST_T = 0, 0, 0, 1, 1, 1, 2, 2, 2, 3, 3, 3, 4
+TABLE_ROWS = 3, 20, 63, 144, 275, 468, 735, 1088, 1539, 2100, 2783, 3600, 4563
+
+
+def constants():
+    for n in range(256):
+        in_table = 1 <= n <= 13
+        yield bytes((8, n)), f"largest {LARGEST_T[n - 1] if in_table else 0}"
+        yield bytes((9, n)), f"rows {TABLE_ROWS[n - 1] if in_table else 0}"
+
+
+def tests():
+    for n, t, refusal in ((13, 4, 0), (12, 4, 5), (14, 4, 4), (0, 0, 4), (1, 0, 0), (1, 255, 5), (256, 0, 4),
+                          (TANK, 0, 4), (TANK + 4, 1, 4), (TANK + 4, 255, 4), (TOP, 255, 4)):
+        yield struct.pack(">BQB", 10, n, t), f"sizes {refusal}"
+    for boxes, box, answer in ((8, 3, 1), (8, 2, 0), (8, 4, 0), (0x8000, 15, 1), (0xffff, 16, 0), (0xffff, 32, 0),
+                               (0xffff, 64, 0), (0xffff, TANK, 0), (0xffff, TOP, 0)):
+        yield struct.pack(">BHQ", 11, boxes, box), f"member {answer}"
+    for n, boxes, answer in ((4, 15, 0), (4, 8, 0), (4, 16, 1), (4, 0x8000, 1), (15, 0x8000, 1), (16, 0xffff, 0),
+                             (0, 0, 0), (0, 1, 1), (32, 0xffff, 0), (64, 0xffff, 0), (255, 0xffff, 0)):
+        yield struct.pack(">BBH", 12, n, boxes), f"stray {answer}"
+    for faulty, box, row, answer in ((8, 2, 0, 1), (8, 3, 0, 0), (8, 2, 1, 0), (8, 2, TANK, 0), (8, 2, 2**63, 0),
+                                     (0xffff, 16, 0, 1), (0xffff, 64, 0, 1), (0xffff, TOP, 0, 1)):
+        yield struct.pack(">BHQQ", 13, faulty, box, row), f"zero {answer}"
+
+
+def steps():
+    """Both iterations of case S: box 2 alone grades leader 4 with a row, at confidence 1."""
+    rows, firm = [10, 20, 30, 0, 10, 20, 30, 20, 10, 20, 30, 0], [2, 2, 2, 0, 2, 2, 2, 1, 2, 2, 2, 0]
+    first = steps_line(100, rows, firm)
+    table = case_s_table().rows
+    yield steps_bytes(4, 1, 8, [10, 20, 30], [], table), first
+    # A faulty box's row and list, stray bits and rows above n count for nothing.
+    yield steps_bytes(4, 1, 0xfff8, [10, 20, 30, 7, TANK], [16, 0x8000, 0xfff0, 15, 1], table), first
+    again = steps_line(84, [10, 20, 10, 0] * 3, [2, 2, 2, 0] * 3)
+    yield steps_bytes(4, 1, 8, [10, 20, 10], [8, 8, 8], Table(4).rows), again
+    # A box alone: three messages; one where it does not hear itself; none where it has no row.
+    yield steps_bytes(1, 0, 0, [5], [0], [0, 0, 0]), steps_line(3, [5], [2])
+    yield steps_bytes(1, 0, 0, [5], [1], [0, 0, 0]), steps_line(1, [], [])
+    yield steps_bytes(1, 0, 0, [0], [0], [9, 9, 9]), steps_line(0, [], [])
+    # A faulty box alone: nobody sends and nobody grades.
+    yield steps_bytes(1, 0, 1, [5], [0], [9, 9, 9]), steps_line(0, [], [])
+    for n, t, count, refusal in ((0, 0, 0, 4), (14, 0, 144, 4), (256, 0, 144, 4), (TANK + 4, 1, 144, 4),
+                                 (TOP, 255, 0, 4), (4, 2, 144, 5), (4, 255, 143, 5), (3, 1, 63, 5), (4, 1, 143, 11),
+                                 (4, 1, 145, 11), (4, 1, 0, 11)):
+        yield steps_bytes(n, t, 8, [10, 20, 30], [], [0] * count), steps_refused(refusal)
+
+
+def line(kind, length, word, numbers):
+    return kind + struct.pack(">HBB", length, len(word), len(numbers)) + word + packed(numbers)
+
+
+def lines():
+    at = "97 116 32 49 32 50 32 50 48 32 56 10"
+    for length, due in ((11, "10 0 1 2 3 4 5 6 7 8 9 10 11"), (12, f"0 12 {at}"), (14, f"0 12 {at} 13 14")):
+        yield line(b"\17", length, b"at", [1, 2, 20, 8]), f"line {due}"
+    yield line(b"\17", 0, b"", []), "line 10 0"
+    yield line(b"\17", 1, b"", []), "line 0 1 10"
+    yield line(b"\17", 21, b"", [TOP]), "line 10 0 " + " ".join(str(k) for k in range(1, 22))
+    digits = " ".join(str(ord(digit)) for digit in " 18446744073709551615")
+    yield line(b"\17", 22, b"", [TOP]), f"line 0 22 {digits} 10"
+    rest = " ".join(str(k) for k in (*range(2, 256), 0, 1, 2))
+    yield line(b"\17", 258, b"", []), f"line 0 1 10 {rest}"
+    for place, due in ((0, "2 120 10 3 4 5"), (2, "4 1 2 120 10 5"), (3, "5 1 2 3 120 10"), (4, "4 1 2 3 4 5"),
+                       (5, "5 1 2 3 4 5"), (6, "6 1 2 3 4 5"), (TANK, f"{TANK} 1 2 3 4 5"), (TOP, f"{TOP} 1 2 3 4 5")):
+        yield line(struct.pack(">BQ", 16, place), 5, b"x", []), f"put {due}"
+
+
+def parts():
+    rows = packed([10, 11, 12])
+    for first, count, size, length, due in (
+            (0, 3, 24, 3, "0 10 11 12"), (1, 2, 24, 4, "0 1 11 12 4"), (1, 1, 24, 3, "0 1 11 3"), (0, 0, 0, 1, "0 1"),
+            (3, 0, 24, 3, "0 1 2 3"), (1, 1, 16, 2, "0 1 11"), (0, 3, 23, 3, "8 1 2 3"), (1, 3, 24, 4, "8 1 2 3 4"),
+            (4, 0, 24, 4, "8 1 2 3 4"), (1, TOP, 24, 3, "8 1 2 3"), (TOP, 1, 24, 3, "8 1 2 3"),
+            (2**61, 0, 24, 3, "8 1 2 3"), (2**63, 2**63, 24, 3, "8 1 2 3"), (1, 2, 24, 2, "10 1 2"),
+            (3, 0, 24, 2, "10 1 2"), (1, 3, 24, 2, "8 1 2")):
+        yield struct.pack(">BQQHH", 17, first, count, size, length) + rows[:size], f"part {due}"
+
+
+CASE_S = ("run 4 1 8\nat 1 1 10 8\nat 1 2 20 8\nat 1 3 10 8\n"
+          "at 2 1 10 8\nat 2 2 10 8\nat 2 3 10 8\nsent 184\n")
+
+
+def case_s_file():
+    tables = case_s_table().to_bytes() + Table(4).to_bytes()
+    return heading_bytes(4, 1, 8, [10, 20, 30, 0]) + tables
+
+
+def listing(data, text, ends):
+    """In a slice that is one too short, one that is full and one with two places left."""
+    size = len(text)
+    before = [str(k) for k in range(1, size + 3)]
+    codes = [str(ord(sign)) for sign in text]
+    for length, due in ((size - 1, ["10 0 0", *before[:size - 1]]), (size, [f"0 {size} {ends}", *codes]),
+                        (size + 2, [f"0 {size} {ends}", *codes, *before[size:]])):
+        yield struct.pack(">BHI", 18, length, len(data)) + data, " ".join(["listing", *due])
+
+
+def files():
+    data = case_s_file()
+    one = heading_bytes(1, 255, 0, [5]) + bytes(24)
+    yield from listing(data, CASE_S, 0)
+    yield from listing(data + b"\0", CASE_S.replace("sent 184", "refused 8"), 8)
+    yield from listing(data[:-1], CASE_S[:CASE_S.index("at 2")] + "refused 8\n", 8)
+    yield from listing(one, "run 1 0 0\nat 1 1 5 0\nsent 3\n", 0)
+    yield from listing(b"", "refused 1\n", 1)
+    yield from listing(heading_bytes(3, 1, 8, []), "refused 5\n", 5)
+    for asked, due in ((data, (0, 4, 1, 8, 2, 184, [10, 10, 10], [8, 8, 8])), (one, (0, 1, 0, 0, 1, 3, [5], [])),
+                       (data + b"\0", (8, 0, 0, 0, 0, 0, [], [])), (data[:-1], (8, 0, 0, 0, 0, 0, [], [])),
+                       (data[:9 + 32], (8, 0, 0, 0, 0, 0, [], [])), (b"", (1, 0, 0, 0, 0, 0, [], []))):
+        yield struct.pack(">BI", 19, len(asked)) + asked, state_line("outcome", *due)
+    yield bytes((20,)), "none" + " 0" * 31
+
+
 def all_cases():
-    for part in (votes_and_grades, choices, sizes, iterations):
-        for data, line in part():
-            yield Request(data, "written by hand", None, line)
+    for part in (votes_and_grades, choices, sizes, iterations, wide_states, constants, tests, steps, lines, parts,
+                 files):
+        for data, line_due in part():
+            yield Request(data, "written by hand", None, line_due)

@@ -44,6 +44,11 @@ class Table:
     def third(self, sender, receiver, leader, row):
         self.rows[self.n**2 + self.n**3 + (sender * self.n + receiver) * self.n + leader] = row
 
+    def parts_of(self, sender):
+        """Where this sender's rows stand: the first place and the number of places, for each step."""
+        n = self.n
+        return (sender * n, n), (n**2 + sender * n * n, n * n), (n**2 + n**3 + sender * n * n, n * n)
+
     def to_bytes(self):
         return struct.pack(f">{len(self.rows)}Q", *self.rows)
 
@@ -77,10 +82,8 @@ class Run:
 
 
 def copy_faulty(run, source, target):
-    n = run.n
     for j in run.faulty:
-        parts = [(j * n, n), (n**2 + j * n * n, n * n), (n**2 + n**3 + j * n * n, n * n)]
-        for at, length in parts:
+        for at, length in source.parts_of(j):
             target.rows[at:at + length] = source.rows[at:at + length]
 
 
