@@ -2,7 +2,7 @@
 ghost use mathlib.Core.Path.{_≡_};
 ghost use Prim.Native.Nat.{_+_, _-_, _≤_, _<_};
 ghost use lib.ListN.{length, take, drop};
-ghost use Rattle.lines.specs.Line.{lineReply, lineWrites};
+ghost use Rattle.lines.specs.Line.{lineWrites};
 
 // Fills a part that lies within the bytes: reads until it is full, the input ends or a read fails.
 fn fill_part(bytes: &mut [u8], at: usize, end: usize) -> usize

@@ -10,8 +10,7 @@ use native.Mathlib.Omega.{arith}
 use lib.ListN.{length, getD, take, drop, List·getD-append}
 use lib.Seq.{getD-at, take-at, drop-at}
 use Rattle.counting.proofs.Count.{at-or-below}
-use Rattle.lines.specs.declared.Written.{Written}
-use Rattle.lines.specs.Line.{decimal, lineOf, placed, lineReply, lineWrites, readOn}
+use Rattle.lines.specs.Line.{decimal, lineOf, placed, lineWrites, readOn}
 use Rattle.lines.proofs.Decimal.{
   decimal-small,
   decimal-large,
@@ -107,10 +106,3 @@ module _ (word numbers slice : List ℕ) where
       ap (drop (length (lineOf word numbers))) (line-written word numbers slice l)
       ∙ drop-at (lineOf word numbers) _ (length (lineOf word numbers)) refl
       ∙ ap (λ (m : ℕ). drop m slice) none
-
-  -- two replies that meet one contract are equal, and so are two last contents
-  pub line-unique : {r s : Written} {xs ys : List ℕ} →
-      (r ≡ lineReply word numbers (length slice)) × (xs ≡ lineWrites word numbers slice) →
-      (s ≡ lineReply word numbers (length slice)) × (ys ≡ lineWrites word numbers slice) →
-      (r ≡ s) × (xs ≡ ys)
-  line-unique p q = (p .0 ∙ sym (q .0), p .1 ∙ sym (q .1))

@@ -12,7 +12,7 @@ use Rattle.lines.specs.Line.{placed}
 use Rattle.listing.specs.declared.Listed.{Listed}
 use Rattle.listing.specs.File.{heading}
 use Rattle.listing.specs.Files.{SameButSound, Demand3Of}
-use Rattle.listing.specs.Listing.{outcomeOf, listingOf, endsWith, listReply, listWrites}
+use Rattle.listing.specs.Listing.{outcomeOf, endsWith, listReply, listWrites}
 use Rattle.listing.proofs.Alike.{listing-blind, outcome-blind}
 use Rattle.listing.proofs.Taken.{outcome-keeps}
 use Rattle.listing.proofs.Whole.{outcome-ends}

@@ -2,7 +2,7 @@
 -- has the same heading, which lies in the first 113 bytes; the tables that are due lie before byte 182,633; and both
 -- go on past the last table. Assumes nothing.
 use mathlib.Core.Path.{_≡_, refl, sym, ap, ap₂, subst, _∙_}
-use mathlib.Core.Bool.{Bool, true, false, not}
+use mathlib.Core.Bool.{not}
 use mathlib.Core.List.{List}
 use Prim.Native.Nat.{ℕ, zero, suc, _+_, _-_, _*_, _≤_, _<_}
 use native.Mathlib.Nat.{mul-le-mul, suc-mul}
@@ -11,26 +11,15 @@ use native.Mathlib.Omega.{arith}
 use lib.Dec.{ltb}
 use lib.ListN.{length, getD, take, drop, length-drop}
 use lib.Seq.{length-take-le, take-all, getD-take, getD-drop, ext-getD}
-use borrow.Author.Tests.{lt-ltb, le-ltb, ne-eqb}
+use borrow.Author.Tests.{lt-ltb, ne-eqb}
 use Rattle.counting.specs.Count.{build}
-use Rattle.counting.specs.Refuse.{firstOf}
 use Rattle.counting.proofs.Build.{build-ext}
 use Rattle.sizes.specs.Sizes.{outside, tableRows}
 use Rattle.sizes.proofs.Laws.{inside-high, table-le}
 use Rattle.runfile.specs.declared.Heading.{Heading}
-use Rattle.runfile.specs.File.{
-  number,
-  marked,
-  versionOf,
-  nOf,
-  tByte,
-  faultyOf,
-  headingBytes,
-  rowFrom,
-  headingRow,
-  tableRow,
-}
+use Rattle.runfile.specs.File.{number, marked, versionOf, nOf, headingBytes, rowFrom, headingRow, tableRow}
 use Rattle.runfile.specs.Reply.{headingTests, headingRefusal, headingOf, nothingRead, headingReply, tableRefusal}
+use Rattle.runfile.proofs.Follows.{SameHeading, heading-alike}
 use Rattle.runfile.proofs.Laws.{heading-number}
 use Rattle.gradecast.specs.Lies.{SameLies}
 use Rattle.listing.specs.File.{
@@ -119,57 +108,24 @@ module _ (bytes : List ℕ) (long : enough < length bytes) where
   unfolding front
   number-same at size l = number-take enough bytes at size l
 
-  n-same : nOf front ≡ nOf bytes
-  unfolding nOf
-  n-same = byte-same 5 (omega arith)
-
   rows-same : (n : ℕ) → n ≤ 13 → build n (headingRow front) ≡ build n (headingRow bytes)
   unfolding headingRow rowFrom
   rows-same n l =
       build-ext n (λ k. number front (9 + 8 * k) 8) (λ k. number bytes (9 + 8 * k) 8)
       (λ k lk. number-same (9 + 8 * k) 8 (omega arith))
 
-  mark-same : marked front ≡ marked bytes
-  unfolding marked
-  mark-same = rw (byte-same 0 (omega arith), byte-same 1 (omega arith), byte-same 2 (omega arith)) refl
-
-  version-same : versionOf front ≡ versionOf bytes
-  unfolding versionOf
-  version-same = number-same 3 2 (omega arith)
-
-  t-same : tByte front ≡ tByte bytes
-  unfolding tByte
-  t-same = byte-same 6 (omega arith)
-
-  faulty-same : faultyOf front ≡ faultyOf bytes
-  unfolding faultyOf
-  faulty-same = number-same 7 2 (omega arith)
-
-  -- neither is shorter than a heading
-  no-short : (xs : List ℕ) (k : ℕ) → enough ≤ length xs → k ≤ 113 → ltb (length xs) k ≡ false
-  no-short xs k l h = le-ltb (length xs) k (omega arith)
-
-  refusal-same : headingRefusal front 13 ≡ headingRefusal bytes 13
-  unfolding headingRefusal headingTests firstOf
-  refusal-same = go (outside (nOf bytes)) refl
-    where
-      a9 : ltb (length front) 9 ≡ false
-      a9 = no-short front 9 (omega (arith, front-long)) (omega arith)
-
-      b9 : ltb (length bytes) 9 ≡ false
-      b9 = no-short bytes 9 (omega arith) (omega arith)
-
-      go : (o : Bool) → outside (nOf bytes) ≡ o → headingRefusal front 13 ≡ headingRefusal bytes 13
-      go true e = rw (a9, b9, mark-same, version-same, n-same, e) refl
-      go false e =
-          let few = inside-high (nOf bytes) e in
-          let a8 = no-short front (headingBytes (nOf bytes)) (omega (arith, front-long)) (heading-most few) in
-          let b8 = no-short bytes (headingBytes (nOf bytes)) (omega arith) (heading-most few) in
-          rw (a9, b9, mark-same, version-same, n-same, t-same, faulty-same, a8, b8, rows-same (nOf bytes) few) refl
-
   heading-same : heading front ≡ heading bytes
-  unfolding heading headingReply headingOf
-  heading-same = rw (refusal-same, version-same, n-same, t-same, faulty-same) refl
+  unfolding heading
+  heading-same =
+      heading-alike enough front bytes
+      (record {
+        reaches-a = omega (arith, front-long);
+        reaches-b = omega arith;
+        same = byte-same;
+        fixed = omega arith;
+        whole = λ inside. omega (arith, heading-most (inside-high (nOf front) inside));
+      })
+      13
 
   -- the tables that are due lie within
   module _ (ok : refusedStart front ≡ 0) where

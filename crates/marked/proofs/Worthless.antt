@@ -1,7 +1,7 @@
 -- None of the five worthless builds meets the contracts, as the toolchain states them: at case S, or at a marked vote
 -- or grade, its reply is not the one that the contract admits. Two of them break demand 3 as well. Assumes nothing.
-use mathlib.Core.Path.{_≡_, refl, sym, ap, _∙_}
-use mathlib.Core.List.{List, [], _∷_}
+use mathlib.Core.Path.{_≡_, refl, ap, _∙_}
+use mathlib.Core.List.{[], _∷_}
 use Prim.Native.Nat.{ℕ, zero, suc, _+_}
 use native.Mathlib.Omega.{arith}
 use lib.ListN.{getD}
@@ -50,7 +50,6 @@ use Rattle.gradecast.specs.Steps.{
   sentTo,
   messages,
 }
-use Rattle.run.specs.declared.Run.{Run}
 use Rattle.run.specs.declared.Next.{Next}
 use Rattle.run.specs.Iteration.{entry, gradedRows, confidences, newRow, newList, nextRun}
 use Rattle.run.specs.State.{
@@ -73,7 +72,6 @@ use Rattle.marked.specs.Worthless.{
   refusing,
   fixedRow,
   handedBack,
-  raised,
   firstOnly,
   invented,
   runBy,

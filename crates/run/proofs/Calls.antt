@@ -1,7 +1,7 @@
 -- A run made of calls: the contracts of `start` and `iterate`, as the toolchain states them, of one reply after
 -- another. Each reply is then the one that the definitions give, so that what is proved of those holds of every run
 -- that is made by calls. A contract that said less of its reply would not do. Assumes nothing.
-use mathlib.Core.Path.{_≡_, sym, ap, _∙_, subst}
+use mathlib.Core.Path.{_≡_, sym, ap, _∙_}
 use mathlib.Core.Bool.{Bool, true, false, cond}
 use mathlib.Core.List.{List}
 use Prim.Native.Nat.{ℕ, zero, suc, _+_, _≤_, _<_}

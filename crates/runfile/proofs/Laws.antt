@@ -173,16 +173,3 @@ heading-startable bytes slice e =
       pass11 = ap length rows ∙ length-build (nOf bytes) (headingRow bytes);
       pass9 = ap (soundZero (nOf bytes) (faultyOf bytes)) rows ∙ a .nonzero;
     }
-
--- two replies that meet one contract are equal, and so are two last contents
-pub heading-unique : (bytes slice : List ℕ) {r s : Heading} {xs ys : List ℕ} →
-    (r ≡ headingReply bytes (length slice)) × (xs ≡ headingWrites bytes slice) →
-    (s ≡ headingReply bytes (length slice)) × (ys ≡ headingWrites bytes slice) →
-    (r ≡ s) × (xs ≡ ys)
-heading-unique bytes slice p q = (p .0 ∙ sym (q .0), p .1 ∙ sym (q .1))
-
-pub table-unique : (n : ℕ) (bytes slice : List ℕ) {r s : ℕ} {xs ys : List ℕ} →
-    (r ≡ tableRefusal n bytes (length slice)) × (xs ≡ tableWrites n bytes slice) →
-    (s ≡ tableRefusal n bytes (length slice)) × (ys ≡ tableWrites n bytes slice) →
-    (r ≡ s) × (xs ≡ ys)
-table-unique n bytes slice p q = (p .0 ∙ sym (q .0), p .1 ∙ sym (q .1))

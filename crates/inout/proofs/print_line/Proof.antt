@@ -1,7 +1,7 @@
 -- `inout::print_line` meets its contract: the size that was written lies within the text, and printing leaves the text
 -- as it is. Assumes nothing.
 use Prim.Native.Nat.{_≤_}
-use mathlib.Core.Path.{sym, ap}
+use mathlib.Core.Path.{_≡_, sym, ap, _∙_}
 use native.Mathlib.Omega.{arith}
 use lib.ListN.{length}
 use lib.Seq.{length-take-le}
@@ -10,6 +10,7 @@ use Rattle.lines.proofs.Put.{line-within}
 use borrow.Author.Needs.{needs}
 use Rattle.inout.proofs.print_line.Statement.{statement}
 use Rattle.inout.proofs.print_line.Tie as tie
+use Rattle.inout.proofs.print_line.Reads as Reads
 
 fits : (c : tie.After-write-line) → c .write-line .result .size ≤ length (c .write-line .last .0)
 fits c =
@@ -48,3 +49,7 @@ print-line-spec =
     write-all-requires
     same-length
     returns)
+
+-- the contract admits one last contents of the slice; there is no reply
+pub only-one : (κs : _) (a : _) (r s : _) (x y : _) → Reads.Post κs a r x → Reads.Post κs a s y → x .0 .now ≡ y .0 .now
+only-one κs a r s x y p q = p ∙ sym q

@@ -1,5 +1,6 @@
 -- `lines::put_line` meets its contract: behind the text there is no room for a line; within it the line is put
 -- there. Assumes nothing.
+use mathlib.Core.Path.{_≡_, sym, _∙_}
 use Prim.Native.Nat.{_-_}
 use native.Mathlib.Omega.{arith}
 use lib.ListN.{length}
@@ -7,6 +8,7 @@ use Rattle.lines.proofs.Put.{line-within, line-beyond}
 use borrow.Author.Needs.{needs}
 use Rattle.lines.proofs.put_line.Statement.{statement}
 use Rattle.lines.proofs.put_line.Tie as tie
+use Rattle.lines.proofs.put_line.Reads as Reads
 
 returns : tie.Need-returns
 returns c =
@@ -28,3 +30,8 @@ returns-2 c =
 
 pub put-line-spec : {M : Type 1} → statement M
 put-line-spec = tie.close (tie.spec returns put-within-requires same-length returns-2)
+
+-- the contract admits one reply, and one last contents of the slice
+pub only-one : (κs : _) (a : _) (r s : _) (x y : _) → Reads.Post κs a r x → Reads.Post κs a s y →
+    (r ≡ s) × (x .0 .now ≡ y .0 .now)
+only-one κs a r s x y p q = (p .0 ∙ sym (q .0), p .1 .1 ∙ sym (q .1 .1))

@@ -1,7 +1,7 @@
 -- `lines::write_line` meets its contract: a slice that is too short stays as it is; one that is long enough takes
 -- the word, the numbers behind it and the newline behind them, which together are the line, and the place behind the
 -- newline is its size. Assumes nothing.
-use mathlib.Core.Path.{_≡_, ap, sym, _∙_}
+use mathlib.Core.Path.{_≡_, sym, ap, _∙_}
 use mathlib.Core.List.{List, _++_}
 use Prim.Native.Nat.{ℕ, _+_, _≤_}
 use native.Mathlib.Omega.{arith}
@@ -14,6 +14,7 @@ use Rattle.lines.proofs.Placed.{placed-front, placed-then, placed-next,
 use borrow.Author.Needs.{needs}
 use Rattle.lines.proofs.write_line.Statement.{statement}
 use Rattle.lines.proofs.write_line.Tie as tie
+use Rattle.lines.proofs.write_line.Reads as Reads
 
 abbrev start-of : tie.After-too-short → tie.Start
 start-of c = c .before .before .before .before
@@ -132,3 +133,8 @@ write-line-spec =
     add-t7
     same-length
     returns-2)
+
+-- the contract admits one reply, and one last contents of the slice
+pub only-one : (κs : _) (a : _) (r s : _) (x y : _) → Reads.Post κs a r x → Reads.Post κs a s y →
+    (r ≡ s) × (x .0 .now ≡ y .0 .now)
+only-one κs a r s x y p q = (p .0 ∙ sym (q .0), p .1 ∙ sym (q .1))
