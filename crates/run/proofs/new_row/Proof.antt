@@ -84,14 +84,16 @@ returns c =
     λ table g.
     let f = c .before .before in
     let p = start-of f .pre in
-    new-row-old _ _ (p .0 .low) (p .0 .high) (p .1) table _ _ g (sym (chosen f table g) ∙ c .before .if1 .taken)
+    let none : f .choose .result .row ≡ 0 = omega (arith, c .before .if1 .taken) in
+    new-row-old _ _ (p .0 .low) (p .0 .high) (p .1) table _ _ g (sym (chosen f table g) ∙ none)
 
 returns-2 : tie.Need-returns-2
 returns-2 c =
     λ table g.
     let f = c .before in
     let p = start-of f .pre in
-    new-row-chosen _ _ (p .0 .low) (p .0 .high) (p .1) table _ _ g _ (chosen f table g) (c .if1 .left)
+    let some : f .choose .result .row ≡ 0 → ⊥ = λ z. absurd (omega (arith, z, c .if1 .left)) in
+    new-row-chosen _ _ (p .0 .low) (p .0 .high) (p .1) table _ _ g _ (chosen f table g) some
 
 pub new-row-spec : {M : Type 1} → statement M
 new-row-spec =

@@ -20,15 +20,16 @@ start-of c = c .before .before .before .before
 
 none : (c : tie.Else1) →
     tableRefusal (start-of c .args .n) (start-of c .args .bytes .now) (length (start-of c .args .rows .now)) ≡ 0
-none c = sym (c .before .table-refusal .ensures) ∙ c .if1 .left
+none c =
+    let zero : c .before .table-refusal .result ≡ 0 = omega (arith, c .if1 .left) in
+    sym (c .before .table-refusal .ensures) ∙ zero
 
 -- what the table passed
 read : (c : tie.Else1) →
     TableAccepted (start-of c .args .n) (start-of c .args .bytes .now) (length (start-of c .args .rows .now))
 read c = table-accepted _ _ _ (none c)
 
-rows-of : (c : tie.After-table-rows) →
-    c .table-rows .result ≡ tableRows (c .before .before .before .before .before .args .n)
+rows-of : (c : tie.After-table-rows) → c .table-rows .result ≡ tableRows (start-of (c .before) .args .n)
 rows-of c = c .table-rows .ensures ∙ by-n-inside tableRows _ (read (c .before) .inside)
 
 table-refusal-requires : tie.Need-table-refusal-requires
@@ -37,7 +38,7 @@ table-refusal-requires c κs = search needs
 returns : tie.Need-returns
 returns c =
     let e = c .before .table-refusal .ensures in
-    (e, sym (table-leaves _ _ _ (λ z. c .if1 .taken (e ∙ z))))
+    (e, sym (table-leaves _ _ _ (λ z. absurd (omega (arith, e, z, c .if1 .taken)))))
 
 table-rows-requires : tie.Need-table-rows-requires
 table-rows-requires c κs = search needs
@@ -49,15 +50,20 @@ write-rows-requires c κs =
 same-length : tie.Need-same-length
 same-length c = search needs
 
+-- where the rows are counted, from where they are written
+abbrev counted : tie.After-slice-known2 → tie.After-table-rows
+counted c = c .before .before .before .before
+
 returns-2 : tie.Need-returns-2
 unfolding tableRow
 returns-2 c =
-    let bytes = c .before .before .before .before .before .before .before .before .before .args .bytes .now in
-    let rows = c .before .before .before .before .before .before .before .before .before .args .rows .now in (
-      sym (none (c .before .before .before .before .before)),
+    let rows = counted c in
+    let l = rows .before in
+    let a = start-of l .args in (
+      sym (none l),
       c .before .before .write-rows .ensures
-          ∙ ap (λ (n : ℕ). front n (tableRow bytes) rows) (rows-of (c .before .before .before .before))
-          ∙ sym (table-written _ bytes rows (none (c .before .before .before .before .before))),
+          ∙ ap (λ (n : ℕ). front n (tableRow (a .bytes .now)) (a .rows .now)) (rows-of rows)
+          ∙ sym (table-written _ (a .bytes .now) (a .rows .now) (none l)),
     )
 
 pub read-table-spec : {M : Type 1} → statement M

@@ -2,11 +2,11 @@
 -- nothing.
 use mathlib.Core.Path.{_≡_, sym, ap, _∙_}
 use mathlib.Core.Bool.{false}
-use mathlib.Core.List.{[]}
+use mathlib.Core.List.{List, []}
 use Prim.Native.Nat.{ℕ, _*_}
 use native.Mathlib.Omega.{arith}
 use lib.Dec.{ltb}
-use lib.ListN.{drop}
+use lib.ListN.{length, drop}
 use borrow.Author.Tests.{eq-eqb, ne-eqb, lt-ltb, le-ltb}
 use Rattle.counting.specs.Refuse.{firstOf}
 use Rattle.counting.proofs.Bools.{not-of-true, not-of-false}
@@ -28,18 +28,29 @@ inside-of : (c : tie.Else1) → outside (c .before .before .before .args .n) ≡
 inside-of c = sym (c .before .is-outside .ensures) ∙ c .if1 .left
 
 -- inside 1 to 13 the table by n is the formula
-rows-of : (c : tie.After-table-rows) → c .table-rows .result ≡ tableRows (c .before .before .before .before .args .n)
+rows-of : (c : tie.After-table-rows) →
+    let start = c .before .before .before in
+    c .table-rows .result ≡ tableRows (start .before .args .n)
 rows-of c = c .table-rows .ensures ∙ by-n-inside tableRows _ (inside-of (c .before))
 
 passed-4 : (c : tie.Else1) → Passed (c .before .before .before) 1
 unfolding tableRefusal tableTests
 passed-4 c = passed 4 _ (inside-of c)
 
-passed-8 : (c : tie.Else2) → Passed (c .before .before .before .before .before) 2
+abbrev start-of : tie.Else2 → tie.Start
+start-of c = c .before .before .before .before .before
+
+abbrev n-of : tie.Else2 → ℕ
+n-of c = start-of c .args .n
+
+abbrev bytes-of : tie.Else2 → List ℕ
+bytes-of c = start-of c .args .bytes .now
+
+passed-8 : (c : tie.Else2) → Passed (start-of c) 2
 unfolding tableTests
 passed-8 c =
-    passed-4 (c .before .before)
-    ∙ passed 8 _ (not-of-true (eq-eqb _ _ (c .if2 .left ∙ ap (λ (m : ℕ). 8 * m) (rows-of (c .before)))))
+    let exact : length (bytes-of c) ≡ 8 * tableRows (n-of c) = omega (arith, c .if2 .left, rows-of (c .before)) in
+    passed-4 (c .before .before) ∙ passed 8 _ (not-of-true (eq-eqb _ _ exact))
 
 is-outside-requires : tie.Need-is-outside-requires
 is-outside-requires c κs = search needs
@@ -57,10 +68,11 @@ mul-if2 c = omega (arith, rows-of c, table-le (inside-high _ (inside-of (c .befo
 returns-2 : tie.Need-returns-2
 unfolding tableRefusal tableTests
 returns-2 c =
-    sym
-    (passed-4 (c .before .before)
-    ∙ refused 8 _
-    (not-of-false (ne-eqb _ _ (λ e. c .if2 .taken (e ∙ ap (λ (m : ℕ). 8 * m) (sym (rows-of (c .before))))))))
+    let l = c .before .before in
+    let a = l .before .before .before .args in
+    let other = ne-eqb (length (a .bytes .now)) (8 * tableRows (a .n))
+    (λ e. absurd (omega (arith, e, c .if2 .taken, rows-of (c .before)))) in
+    sym (passed-4 l ∙ refused 8 _ (not-of-false other))
 
 returns-3 : tie.Need-returns-3
 unfolding tableRefusal tableTests
