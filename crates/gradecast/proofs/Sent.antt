@@ -16,7 +16,7 @@ use Rattle.counting.proofs.Bools.{cond-true, cond-false}
 use Rattle.counting.proofs.Build.{front-take, length-build, getD-build}
 use Rattle.counting.proofs.Count.{count-ext, count-none, count-rows, count-sum, sum-ext, sum-add}
 use Rattle.sizes.specs.Sizes.{sound}
-use Rattle.gradecast.specs.Steps.{heard1, voted, messages}
+use Rattle.gradecast.specs.Steps.{sent1, sent2, sent3, messages}
 use Rattle.gradecast.specs.Cast.{ofSound, cellsTo, cells}
 use Rattle.gradecast.specs.declared.Settings.{Settings}
 use Rattle.gradecast.specs.Inside.{SaidSecond, SaidThird, filled, sendsFirst}
@@ -70,21 +70,21 @@ module _ (s : Settings) (rows lists table second third : List ℕ) where
 
   -- what sound box j sends in each step, and 0 for a faulty one
   abbrev in-step1 : ℕ → ℕ
-  in-step1 j = cond (sound (s .faulty) j) (cond (eqb (getD rows j 0) 0) 0 1) 0
+  in-step1 j = cond (sound (s .faulty) j) (cond (eqb (sent1 rows j) 0) 0 1) 0
 
   abbrev in-step2 : ℕ → ℕ
   in-step2 j =
-      cond (sound (s .faulty) j) (count n (λ k. not (eqb (heard1 n (s .faulty) rows lists table j k) 0))) 0
+      cond (sound (s .faulty) j) (count n (λ k. not (eqb (sent2 n (s .faulty) rows lists table j k) 0))) 0
 
   abbrev in-step3 : ℕ → ℕ
   in-step3 j =
-      cond (sound (s .faulty) j) (count n (λ k. not (eqb (voted n (s .t) (s .faulty) rows lists table j k) 0))) 0
+      cond (sound (s .faulty) j) (count n (λ k. not (eqb (sent3 n (s .t) (s .faulty) rows lists table j k) 0))) 0
 
   boxes : count n (sendsFirst (s .faulty) rows) ≡ sum n in-step1
   boxes =
       count-sum n (sendsFirst (s .faulty) rows)
       ∙ sum-ext n (λ j. cond (sendsFirst (s .faulty) rows j) 1 0) in-step1
-      (λ j l. first (sound (s .faulty) j) (eqb (getD rows j 0) 0))
+      (λ j l. first (sound (s .faulty) j) (eqb (sent1 rows j) 0))
 
   -- the three counts together, n times
   pub messages-counted : SaidSecond s lists table second rows → SaidThird s lists table third rows →

@@ -9,7 +9,7 @@ use Rattle.counting.specs.Count.{any, count}
 use Rattle.counting.specs.Sets.{member}
 use Rattle.sizes.specs.Sizes.{tableRows, sound}
 use Rattle.tally.specs.Tally.{voteOf, confidenceOf, gradedRow}
-use Rattle.gradecast.specs.Steps.{placeFrom, sends, hears, heard1, voted, confidence, gradeRow, messages}
+use Rattle.gradecast.specs.Steps.{placeFrom, sends, hears, sent1, heard1, voted, confidence, gradeRow, messages}
 use Rattle.gradecast.specs.Cast.{ofSound, cellsTo, cells}
 use Rattle.gradecast.specs.Fair.{SoundBox, faultyBoxes, NoSoundListed}
 use Rattle.gradecast.specs.declared.Settings.{Settings}
@@ -190,7 +190,7 @@ filled xs = count (length xs) (λ k. not (eqb (getD xs k 0) 0))
 
 -- does box j send its row in step 1, as a sound box that has one?
 abbrev pub sendsFirst : ℕ → List ℕ → ℕ → Bool
-sendsFirst faulty rows j = sound faulty j && not (eqb (getD rows j 0) 0)
+sendsFirst faulty rows j = sound faulty j && not (eqb (sent1 rows j) 0)
 
 -- the messages, where the cells are what the sound boxes send in steps 2 and 3
 abbrev pub AllSent : Settings → List ℕ → List ℕ → List ℕ → ℕ → Type 0

@@ -5,6 +5,7 @@ use Rattle.gradecast.proofs.Replies.{steps-ready, steps-sized, cast-ref
 use borrow.Author.Needs.{needs}
 use Rattle.gradecast.proofs.steps.Statement.{statement}
 use Rattle.gradecast.proofs.steps.Tie as tie
+use Rattle.gradecast.proofs.steps.Reads as Reads
 
 -- the call is not refused
 not-refused : (c : tie.Else1) →
@@ -26,3 +27,7 @@ returns-2 c = c .all-steps .ensures ∙ cast-taken _ _ _ _ _ _ (not-refused (c .
 
 pub steps-spec : {M : Type 1} → statement M
 steps-spec = tie.close (tie.spec steps-refusal-requires returns all-steps-requires returns-2)
+
+-- the contract admits one reply
+pub only-one : (κs : _) (a : _) (r s : _) (x y : _) → Reads.Post κs a r x → Reads.Post κs a s y → r ≡ s
+only-one κs a r s x y p q = p ∙ sym q
