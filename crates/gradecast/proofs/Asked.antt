@@ -19,8 +19,9 @@ use Rattle.gradecast.specs.declared.Hall.{Hall}
 use Rattle.gradecast.specs.declared.Seat.{Seat}
 use Rattle.gradecast.specs.Cast.{ofSound, cells}
 use Rattle.gradecast.specs.Fair.{SoundBox, faultyBoxes}
-use Rattle.gradecast.specs.Inside.{RightSize, AllHeard, saidBy, columnOf, Calm, AskedFor, Seated, PutTo, onLeader}
-use Rattle.gradecast.specs.Inside.{plainConfidence, voteBy, rowBy, confidenceBy, SaidSecond, SaidThird}
+use Rattle.gradecast.specs.Inside.{RightSize, AllHeard, saidBy, columnOf, Calm, AskedFor, Seated}
+use Rattle.gradecast.specs.Inside.{PutTo, onLeader, plainConfidence, voteBy, rowBy, confidenceBy}
+use Rattle.gradecast.specs.Inside.{SaidSecond, SaidThird}
 use Rattle.gradecast.specs.Inside.{votesOfSound, rowsOfSound, confidencesOfSound}
 use Rattle.gradecast.proofs.Boxes.{sound-not-faulty, not-faulty-sound}
 use Rattle.gradecast.proofs.Cells.{cells-at, put-nothing, put-same}
@@ -115,19 +116,22 @@ module _
         Calm n (s .t) (s .faulty) lists × SoundBox n (s .faulty) k
     trust = p .prepared .enough
 
-    module _ (h : AllHeard (n * n) s (getD lists i 0) table said i heard) (e : SaidSecond s lists table said rows) where
-      -- its vote
-      pub votes-made : (k : ℕ) → k < n → voteBy seat said heard k ≡ votesOfSound s rows lists table i k
-      votes-made k l =
-          on-leader (seat .hall) voteOf _ heard k
-          (votes-heard s _ _ _ _ _ (p .prepared .size .high) size is-sound rows h e k l)
-          (λ out.
-          let calm = trust k l out .0 in
-          let leader = trust k l out .1 in
-          own-cell _ e k l
-          ∙ heard1-is calm rows table i k this-box leader
-          ∙ sym (sound-voted calm rows table i k this-box leader)
-          ∙ sym (of-sound (s .faulty) _ i k is-sound))
+    module _
+        (h : AllHeard (n * n) s (getD lists i 0) table said i heard)
+        (e : SaidSecond s lists table said rows)
+      where
+        -- its vote
+        pub votes-made : (k : ℕ) → k < n → voteBy seat said heard k ≡ votesOfSound s rows lists table i k
+        votes-made k l =
+            on-leader (seat .hall) voteOf _ heard k
+            (votes-heard s _ _ _ _ _ (p .prepared .size .high) size is-sound rows h e k l)
+            (λ out.
+            let calm = trust k l out .0 in
+            let leader = trust k l out .1 in
+            own-cell _ e k l
+            ∙ heard1-is calm rows table i k this-box leader
+            ∙ sym (sound-voted calm rows table i k this-box leader)
+            ∙ sym (of-sound (s .faulty) _ i k is-sound))
 
     module _
         (h : AllHeard (n * n + n * n * n) s (getD lists i 0) table said i heard)

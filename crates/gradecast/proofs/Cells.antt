@@ -77,8 +77,8 @@ module _ (n : ℕ) (f : ℕ → ℕ → ℕ) where
       ∙ sym (ap₂ f (digits-div i l) (digits-mod i l) ∙ h m l))
       ∙ ap (λ (q : ℕ). cellsTo q n f) (omega arith)
 
--- a loop that puts the numbers of box i one by one, as g gives them: after k of n turns the first k are put, behind the
--- cells that stood there first
+-- a loop that puts the numbers of box i one by one, as g gives them: after k of n turns the first k are put, behind
+-- the cells that stood there first
 abbrev pub Putting : ℕ → ℕ → (ℕ → ℕ) → List ℕ → ℕ → List ℕ → Type 0
 Putting n i g first k out = (k ≤ n) × (length out ≡ length first) × PutTo n i k g first out
 

@@ -35,8 +35,8 @@ digits-high {n} a b c d hb hd e = sym (digits-div a hb) ∙ ap (λ (m : ℕ). m 
 digits-low : {n : ℕ} (a b c d : ℕ) → b < n → d < n → a * n + b ≡ c * n + d → b ≡ d
 digits-low {n} a b c d hb hd e = sym (digits-mod a hb) ∙ ap (λ (m : ℕ). m % n) e ∙ digits-mod c hd
 
--- a loop that puts down the rows of sender j one by one, as g gives them: after k of n turns the first k are there, and
--- the other senders' rows stand as they did first
+-- a loop that puts down the rows of sender j one by one, as g gives them: after k of n turns the first k are there,
+-- and the other senders' rows stand as they did first
 abbrev pub Hearing : ℕ → ℕ → (ℕ → ℕ) → List ℕ → ℕ → List ℕ → Type 0
 Hearing n j g first k heard = (k ≤ n) × (length heard ≡ length first) × FromSender n j k g first heard
 
@@ -62,7 +62,8 @@ module _ {n j : ℕ} (high : n ≤ 13) (below : j < n) (g : ℕ → ℕ) {first 
 
       before : (a : ℕ) → a < k → getD (set heard (k * n + j) v) (a * n + j) 0 ≡ g a
       before a la =
-          getD-set-other heard (k * n + j) (a * n + j) v 0 (λ q. absurd (omega (arith, digits-high a j k j below below q)))
+          getD-set-other heard (k * n + j) (a * n + j) v 0
+          (λ q. absurd (omega (arith, digits-high a j k j below below q)))
           ∙ h .2 .put a la
 
       stays : (a other : ℕ) → other < n → (other ≡ j → ⊥) →
@@ -161,7 +162,7 @@ module _
       where
         pub votes-heard : voteOf (s .t) (columnOf (s .n) heard k) ≡ votesOfSound s rows lists table i k
         unfolding voted column2 heard2 place2
-        votes-heard = ap (voteOf (s .t)) (column-is (s .n * s .n) _ h e k l) ∙ sym (of-sound (s .faulty) _ i k is-sound)
+        votes-heard = ap (voteOf (s .t)) (column-is _ _ h e k l) ∙ sym (of-sound (s .faulty) _ i k is-sound)
 
     module _
         (h : AllHeard (s .n * s .n + s .n * s .n * s .n) s (getD lists i 0) table said i heard)
@@ -171,6 +172,8 @@ module _
         unfolding gradeRow column3 heard3 place3
         rows-heard = ap (gradedRow (s .t)) (column-is _ _ h e k l) ∙ sym (of-sound (s .faulty) _ i k is-sound)
 
-        pub confidences-heard : confidenceOf (s .t) (columnOf (s .n) heard k) ≡ confidencesOfSound s rows lists table i k
+        pub confidences-heard :
+            confidenceOf (s .t) (columnOf (s .n) heard k) ≡ confidencesOfSound s rows lists table i k
         unfolding confidence column3 heard3 place3
-        confidences-heard = ap (confidenceOf (s .t)) (column-is _ _ h e k l) ∙ sym (of-sound (s .faulty) _ i k is-sound)
+        confidences-heard =
+            ap (confidenceOf (s .t)) (column-is _ _ h e k l) ∙ sym (of-sound (s .faulty) _ i k is-sound)

@@ -51,7 +51,8 @@ module _ (n t : ℕ) (table : List ℕ) where
   unfolding castRefusal
   steps-ready e =
       let first = accepted 3 (outside n) _ e in
-      let whole = accepted 10 (not (eqb (length table) (tableRows n))) [] (accepted 4 (tooMany n t) last (first .1) .1) in
+      let second = accepted 4 (tooMany n t) last (first .1) in
+      let whole = accepted 10 (not (eqb (length table) (tableRows n))) [] (second .1) in
       record {
         low = inside-low n (first .0);
         high = inside-high n (first .0);
@@ -87,6 +88,7 @@ module _ (n t faulty : ℕ) (rows lists table : List ℕ) where
   unfolding castReply noCast
   cast-refused r e h = rw (← e, ne-eqb r 0 h) refl
 
-  pub cast-taken : castRefusal n t table ≡ 0 → castOf n t faulty rows lists table ≡ castReply n t faulty rows lists table
+  pub cast-taken : castRefusal n t table ≡ 0 →
+      castOf n t faulty rows lists table ≡ castReply n t faulty rows lists table
   unfolding castReply
   cast-taken e = rw e refl

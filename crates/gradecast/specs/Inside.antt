@@ -67,7 +67,8 @@ oddTo m faulty lists j = member faulty j || any m (λ i. member (getD lists i 0)
 abbrev pub OddSet : ℕ → ℕ → List ℕ → ℕ → Type 0
 OddSet m faulty lists odd = (j : ℕ) → member odd j ≡ oddTo m faulty lists j
 
--- from every sender that is neither faulty nor on one of the 13 lists, what it says is there: every box hears just that
+-- from every sender that is neither faulty nor on one of the 13 lists, what it says is there: every box hears just
+-- that
 abbrev pub PlainHeard : Settings → List ℕ → List ℕ → List ℕ → Type 0
 PlainHeard s lists said heard =
     (k j : ℕ) → k < s .n → j < s .n → oddTo 13 (s .faulty) lists j ≡ false →

@@ -1,5 +1,5 @@
--- Steps 1 to 4 of one iteration, for every box at once. Boxes and leaders count from 0. The rows and the lists are those
--- held when the iteration began; the table says what the faulty boxes send.
+-- Steps 1 to 4 of one iteration, for every box at once. Boxes and leaders count from 0. The rows and the lists are
+-- those held when the iteration began; the table says what the faulty boxes send.
 use Prim.Native.Nat.{ℕ, _+_, _*_}
 use mathlib.Core.Bool.{cond, not}
 use mathlib.Core.List.{List}
@@ -10,7 +10,8 @@ use Rattle.counting.specs.Sets.{member}
 use Rattle.sizes.specs.Sizes.{sound}
 use Rattle.tally.specs.Tally.{voteOf, confidenceOf, gradedRow}
 
--- the table: n² rows for step 1 (sender, then receiver), then n³ for step 2 (sender, receiver, leader) and n³ for step 3
+-- the table: n² rows for step 1 (sender, then receiver), then n³ for step 2 (sender, receiver, leader) and n³ for step
+-- 3
 unfoldable pub place1 : ℕ → ℕ → ℕ → ℕ
 place1 n sender receiver = sender * n + receiver
 

@@ -75,7 +75,8 @@ struct Seat {
     i: usize,
 }
 
-// What a box with this list hears from j: nothing from a listed box, the table's row from a faulty one, else j's own row.
+// What a box with this list hears from j: nothing from a listed box, the table's row from a faulty one, else j's own
+// row.
 fn hear(settings: Settings, list: u16, table: &[u64], j: usize, place: usize, own: u64) -> u64
     requires { ⌜ place < length (now table) ⌝ }
     ensures { λ r. ⌜ r ≡ hears list j (sends (settings .faulty) (now (table .entry)) j place own) ⌝ }
@@ -185,7 +186,8 @@ fn asked_leaders(settings: Settings, odd: u16) -> u16
     requires { ⌜ RightSize settings ⌝ }
     ensures { λ r. ⌜ AskedFor settings odd r ⌝ }
 {
-    if faulty_boxes(settings.n, settings.faulty) > settings.t as usize {
+    let most = settings.t as usize;
+    if faulty_boxes(settings.n, settings.faulty) > most {
         return 65535;
     }
     if odd == settings.faulty {
@@ -249,8 +251,9 @@ fn hear_from(
     }
 }
 
-// What the box in this seat hears from all boxes about all leaders, a column for each leader. What the senders say that
-// are neither faulty nor listed is there already, and stays for the next box; only the other senders are gone through.
+// What the box in this seat hears from all boxes about all leaders, a column for each leader. What the senders say
+// that are neither faulty nor listed is there already, and stays for the next box; only the other senders are gone
+// through.
 fn hear_all(
     base: usize,
     seat: Seat,
@@ -309,8 +312,8 @@ fn put_votes(seat: Seat, said: &[u64; 169], heard: &[u64], out: &mut [u64])
     }
 }
 
-// Steps 2 and 3 for the box in this seat: Y, which a sound box sends in step 3, from the V of all boxes. A faulty box's
-// cells stay 0.
+// Steps 2 and 3 for the box in this seat: Y, which a sound box sends in step 3, from the V of all boxes. A faulty
+// box's cells stay 0.
 fn step3_box(
     seat: Seat,
     lists: &[u16; 13],
@@ -514,7 +517,8 @@ fn sent_in_step1(n: usize, faulty: u16, rows: &[u64; 13]) -> usize
     sent
 }
 
-// The messages of steps 1 to 3, from the rows and from what the sound boxes send in steps 2 and 3: each goes to n boxes.
+// The messages of steps 1 to 3, from the rows and from what the sound boxes send in steps 2 and 3: each goes to n
+// boxes.
 fn messages_of(settings: Settings, rows: &[u64; 13], second: &[u64], third: &[u64]) -> u64
     requires { ⌜ (settings .n ≤ 13) × (length (now second) ≡ 169) × (length (now third) ≡ 169) ⌝ }
     ensures { λ r. ⌜ AllSent settings (now (rows .entry)) (now (second .entry)) (now (third .entry)) r ⌝ }

@@ -6,34 +6,34 @@ use borrow.Author.Needs.{needs}
 use Rattle.gradecast.proofs.asked_leaders.Statement.{statement}
 use Rattle.gradecast.proofs.asked_leaders.Tie as tie
 
--- the faulty boxes are counted, from behind the first test
-abbrev counted : tie.Else1 → tie.After-faulty-boxes
-counted c = c .before .before
+-- the entry, from where the faulty boxes are counted
+abbrev start : tie.After-faulty-boxes → tie.Start
+start c = c .before .before
+
+cast-most : tie.Need-cast-most
+cast-most c = let p = c .before .pre in omega (arith, p .tolerated, p .high)
 
 faulty-boxes-requires : tie.Need-faulty-boxes-requires
 faulty-boxes-requires c κs = search needs
 
-cast-if1 : tie.Need-cast-if1
-cast-if1 c = let p = c .before .before .pre in omega (arith, p .tolerated, p .high)
-
 returns : tie.Need-returns
-returns c = all-asked _ _ (c .before .before .before .pre .high)
+returns c = all-asked _ _ (start (c .before) .pre .high)
 
 returns-2 : tie.Need-returns-2
 returns-2 c =
     let few = c .before .before in
-    let found = counted few in
-    faulty-asked _ _ (found .before .pre) (omega (arith, found .faulty-boxes .ensures, few .if1 .left)) (c .if2 .taken)
+    let found = few .before in
+    faulty-asked _ _ (start found .pre) (omega (arith, found .faulty-boxes .ensures, few .if1 .left)) (c .if2 .taken)
 
 returns-3 : tie.Need-returns-3
-returns-3 c = all-asked _ _ (counted (c .before .before) .before .pre .high)
+returns-3 c = all-asked _ _ (start (c .before .before .before) .pre .high)
 
 pub asked-leaders-spec : {M : Type 1} → statement M
 asked-leaders-spec =
     tie.close
     (tie.spec
+    cast-most
     faulty-boxes-requires
-    cast-if1
     returns
     returns-2
     returns-3)

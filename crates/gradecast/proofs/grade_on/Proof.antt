@@ -18,7 +18,10 @@ abbrev start : tie.Then1 → tie.Start
 start c = c .before .before .before
 
 -- leader k's column lies within what was heard
-fits : (c : tie.Then1) → let a = start c .args in a .k * a .hall .settings .n + a .hall .settings .n ≤ length (a .heard .now)
+fits : (c : tie.Then1) →
+    let a = start c .args in
+    let n = a .hall .settings .n in
+    a .k * n + n ≤ length (a .heard .now)
 fits c = let p = start c .pre in column-fits (start c .args .heard .now) (p .0) (p .1) (p .2)
 
 is-asked : (c : tie.Then1) → let a = start c .args in member (a .hall .asked) (a .k) ≡ true

@@ -8,12 +8,16 @@ use borrow.Author.Needs.{needs}
 use Rattle.gradecast.proofs.hear.Statement.{statement}
 use Rattle.gradecast.proofs.hear.Tie as tie
 
+-- the entry, from behind the first test
+abbrev start : tie.Else1 → tie.Start
+start c = c .before .before .before
+
 -- what the tests say
-not-listed : (c : tie.Else1) → let a = c .before .before .before .args in member (a .list) (a .j) ≡ false
+not-listed : (c : tie.Else1) → let a = start c .args in member (a .list) (a .j) ≡ false
 not-listed c = sym (c .before .is-member .ensures) ∙ c .if1 .left
 
 is-faulty : (c : tie.Then2) →
-    let a = c .before .before .before .before .before .args in
+    let a = start (c .before .before) .args in
     member (a .settings .faulty) (a .j) ≡ true
 is-faulty c = sym (c .before .is-member2 .ensures) ∙ c .if2 .taken
 

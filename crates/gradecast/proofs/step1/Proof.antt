@@ -1,5 +1,5 @@
--- `gradecast::step1` meets its contract: after i turns the cells of the boxes below i are put. What is left of n falls.
--- Assumes nothing.
+-- `gradecast::step1` meets its contract: after i turns the cells of the boxes below i are put. What is left of n
+-- falls. Assumes nothing.
 use mathlib.Core.Path.{_≡_, ap, _∙_}
 use Prim.Native.Nat.{_*_, _-_, _≤_}
 use native.Mathlib.Omega.{arith}

@@ -1,5 +1,5 @@
--- `run::Run::iterate` meets its contract: it refuses with the state as it came; otherwise steps 1 to 4 are gradecast's,
--- step 5 fills the rows and the lists, and the counter grows by the messages. Assumes nothing.
+-- `run::Run::iterate` meets its contract: it refuses with the state as it came; otherwise steps 1 to 4 are
+-- gradecast's, step 5 fills the rows and the lists, and the counter grows by the messages. Assumes nothing.
 use mathlib.Core.Path.{_≡_, sym, _∙_}
 use native.Mathlib.Omega.{arith}
 use Rattle.run.specs.State.{iterateRefusal}
