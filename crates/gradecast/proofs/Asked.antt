@@ -111,54 +111,48 @@ module _
         ∙ cells-at n (ofSound (s .faulty) f) i k (p .below) l
         ∙ of-sound (s .faulty) f i k is-sound
 
-    -- a leader that is not asked is sound, and all is calm
-    trust : (k : ℕ) → k < n → member (seat .hall .asked) k ≡ false →
-        Calm n (s .t) (s .faulty) lists × SoundBox n (s .faulty) k
-    trust = p .prepared .enough
+    -- the number f i k, where it is what the box counts, and what it has with no counting of a leader that is not
+    -- asked: that one is sound, and all is calm
+    made : (counted : ℕ → List ℕ → ℕ) (plain : ℕ) (f : ℕ → ℕ → ℕ) (k : ℕ) → k < n →
+        counted (s .t) (columnOf n heard k) ≡ f i k →
+        (Calm n (s .t) (s .faulty) lists → SoundBox n (s .faulty) k → plain ≡ f i k) →
+        onLeader (seat .hall) counted plain heard k ≡ ofSound (s .faulty) f i k
+    made counted plain f k l by-count with-none =
+        on-leader (seat .hall) counted plain heard k by-count
+        (λ out. let trust = p .prepared .enough k l out in with-none (trust .0) (trust .1))
+        ∙ sym (of-sound (s .faulty) f i k is-sound)
 
     module _
         (h : AllHeard (n * n) s (getD lists i 0) table said i heard)
-        (e : SaidSecond s lists table said rows)
+        (e : SaidSecond s lists table said rows) (k : ℕ) (l : k < n)
       where
         -- its vote
-        pub votes-made : (k : ℕ) → k < n → voteBy seat said heard k ≡ votesOfSound s rows lists table i k
-        votes-made k l =
-            on-leader (seat .hall) voteOf _ heard k
-            (votes-heard s _ _ _ _ _ (p .prepared .size .high) size is-sound rows h e k l)
-            (λ out.
-            let calm = trust k l out .0 in
-            let leader = trust k l out .1 in
+        pub votes-made : voteBy seat said heard k ≡ votesOfSound s rows lists table i k
+        votes-made =
+            made voteOf _ _ k l (votes-heard s _ _ _ _ _ (p .prepared .size .high) size rows h e k l)
+            (λ calm leader.
             own-cell _ e k l
             ∙ heard1-is calm rows table i k this-box leader
-            ∙ sym (sound-voted calm rows table i k this-box leader)
-            ∙ sym (of-sound (s .faulty) _ i k is-sound))
+            ∙ sym (sound-voted calm rows table i k this-box leader))
 
     module _
         (h : AllHeard (n * n + n * n * n) s (getD lists i 0) table said i heard)
-        (e : SaidThird s lists table said rows)
+        (e : SaidThird s lists table said rows) (k : ℕ) (l : k < n)
       where
-        -- what it said about a leader that is not asked is the leader's row
-        said-row : (k : ℕ) → k < n → member (seat .hall .asked) k ≡ false → saidBy n said k i ≡ getD rows k 0
-        said-row k l out =
-            own-cell _ e k l ∙ sound-voted (trust k l out .0) rows table i k this-box (trust k l out .1)
+        -- what it said about a sound leader is the leader's row
+        said-row : Calm n (s .t) (s .faulty) lists → SoundBox n (s .faulty) k → saidBy n said k i ≡ getD rows k 0
+        said-row calm leader = own-cell _ e k l ∙ sound-voted calm rows table i k this-box leader
 
         -- its grade: the row
-        pub rows-made : (k : ℕ) → k < n → rowBy seat said heard k ≡ rowsOfSound s rows lists table i k
-        rows-made k l =
-            on-leader (seat .hall) gradedRow _ heard k
-            (rows-heard s _ _ _ _ _ (p .prepared .size .high) size is-sound rows h e k l)
-            (λ out.
-            said-row k l out
-            ∙ sym (sound-graded (trust k l out .0) rows table i k this-box (trust k l out .1) .1)
-            ∙ sym (of-sound (s .faulty) _ i k is-sound))
+        pub rows-made : rowBy seat said heard k ≡ rowsOfSound s rows lists table i k
+        rows-made =
+            made gradedRow _ _ k l (rows-heard s _ _ _ _ _ (p .prepared .size .high) size rows h e k l)
+            (λ calm leader. said-row calm leader ∙ sym (sound-graded calm rows table i k this-box leader .1))
 
         -- and the confidence
-        pub confidences-made : (k : ℕ) → k < n →
-            confidenceBy seat said heard k ≡ confidencesOfSound s rows lists table i k
-        confidences-made k l =
-            on-leader (seat .hall) confidenceOf _ heard k
-            (confidences-heard s _ _ _ _ _ (p .prepared .size .high) size is-sound rows h e k l)
-            (λ out.
-            ap plainConfidence (said-row k l out)
-            ∙ sym (sound-graded (trust k l out .0) rows table i k this-box (trust k l out .1) .0)
-            ∙ sym (of-sound (s .faulty) _ i k is-sound))
+        pub confidences-made : confidenceBy seat said heard k ≡ confidencesOfSound s rows lists table i k
+        confidences-made =
+            made confidenceOf _ _ k l (confidences-heard s _ _ _ _ _ (p .prepared .size .high) size rows h e k l)
+            (λ calm leader.
+            ap plainConfidence (said-row calm leader)
+            ∙ sym (sound-graded calm rows table i k this-box leader .0))

@@ -5,28 +5,25 @@
 use mathlib.Core.Path.{_≡_, refl, sym, ap, _∙_}
 use mathlib.Core.List.{List}
 use mathlib.Core.Logic.{⊎-elim}
-use mathlib.Core.Bool.{false}
 use Prim.Native.Nat.{ℕ, _+_, _-_, _*_, _/_, _%_, _≤_, _<_}
 use native.Mathlib.Omega.{arith}
 use lib.Arith.{digits-div, digits-mod}
 use lib.ListN.{length, getD, take, drop, set, length-set, length-drop}
 use lib.Seq.{getD-set-same, getD-set-other, length-take-le}
 use Rattle.counting.specs.Count.{build}
-use Rattle.counting.specs.Sets.{member}
-use Rattle.counting.proofs.Build.{build-ext}
 use Rattle.counting.proofs.Count.{at-or-below}
 use Rattle.tally.specs.Tally.{voteOf, confidenceOf, gradedRow}
 use Rattle.tally.specs.Reply.{voteReply, gradeReply}
 use Rattle.sizes.proofs.Laws.{Sized}
 use Rattle.tally.proofs.Taken.{vote-row, grade-row, grade-confidence}
-use Rattle.gradecast.specs.Steps.{placeFrom, place2, place3, sends, hears, heard1, heard2, column2, voted}
+use Rattle.gradecast.specs.Steps.{placeFrom, place2, place3, sends, hears, heard2, column2, voted}
 use Rattle.gradecast.specs.Steps.{heard3, column3, gradeRow, confidence}
 use Rattle.gradecast.specs.Cast.{ofSound, cells}
 use Rattle.gradecast.specs.declared.Settings.{Settings}
 use Rattle.gradecast.specs.Inside.{RightSize, heardFrom, SendersTo, AllHeard, FromSender, columnOf}
-use Rattle.gradecast.specs.Inside.{SaidSecond, SaidThird, votesOfSound, rowsOfSound, confidencesOfSound}
+use Rattle.gradecast.specs.Inside.{SaidSecond, SaidThird}
 use Rattle.gradecast.proofs.Cells.{cells-at, part-fits, place-fits, part-built}
-use Rattle.gradecast.proofs.Sound.{of-sound, sends-sound}
+use Rattle.gradecast.proofs.Sound.{sends-sound}
 
 -- two digits in base n are told by their number
 digits-high : {n : ℕ} (a b c d : ℕ) → b < n → d < n → a * n + b ≡ c * n + d → a ≡ c
@@ -137,10 +134,10 @@ module _
     part-confidence =
         ap (λ (xs : List ℕ). gradeReply xs t .confidence) part-column ∙ grade-confidence (columnOf n heard k) t fits
 
--- what a sound box makes of the columns that it heard
+-- what a box makes of the columns that it heard
 module _
     (s : Settings) (lists table said heard : List ℕ) (i : ℕ)
-    (high : s .n ≤ 13) (size : length heard ≡ 169) (is-sound : member (s .faulty) i ≡ false) (rows : List ℕ)
+    (high : s .n ≤ 13) (size : length heard ≡ 169) (rows : List ℕ)
   where
     -- for any step: said holds what the sound boxes send, and so a leader's column is what they send about it
     column-is : (base : ℕ) (f : ℕ → ℕ → ℕ) → AllHeard base s (getD lists i 0) table said i heard →
@@ -156,24 +153,22 @@ module _
         (ap (λ (xs : List ℕ). getD xs (j * s .n + k) 0) e ∙ cells-at (s .n) (ofSound (s .faulty) f) j k l leader)
         ∙ ap (hears (getD lists i 0) j) (sends-sound (s .faulty) table f j k (placeFrom base (s .n) j i k)))
 
-    module _
-        (h : AllHeard (s .n * s .n) s (getD lists i 0) table said i heard)
-        (e : SaidSecond s lists table said rows) (k : ℕ) (l : k < s .n)
-      where
-        pub votes-heard : voteOf (s .t) (columnOf (s .n) heard k) ≡ votesOfSound s rows lists table i k
-        unfolding voted column2 heard2 place2
-        votes-heard = ap (voteOf (s .t)) (column-is _ _ h e k l) ∙ sym (of-sound (s .faulty) _ i k is-sound)
+    pub votes-heard : AllHeard (s .n * s .n) s (getD lists i 0) table said i heard →
+        SaidSecond s lists table said rows → (k : ℕ) → k < s .n →
+        voteOf (s .t) (columnOf (s .n) heard k) ≡ voted (s .n) (s .t) (s .faulty) rows lists table i k
+    unfolding voted column2 heard2 place2
+    votes-heard h e k l = ap (voteOf (s .t)) (column-is _ _ h e k l)
 
     module _
         (h : AllHeard (s .n * s .n + s .n * s .n * s .n) s (getD lists i 0) table said i heard)
         (e : SaidThird s lists table said rows) (k : ℕ) (l : k < s .n)
       where
-        pub rows-heard : gradedRow (s .t) (columnOf (s .n) heard k) ≡ rowsOfSound s rows lists table i k
+        pub rows-heard : gradedRow (s .t) (columnOf (s .n) heard k) ≡
+            gradeRow (s .n) (s .t) (s .faulty) rows lists table i k
         unfolding gradeRow column3 heard3 place3
-        rows-heard = ap (gradedRow (s .t)) (column-is _ _ h e k l) ∙ sym (of-sound (s .faulty) _ i k is-sound)
+        rows-heard = ap (gradedRow (s .t)) (column-is _ _ h e k l)
 
-        pub confidences-heard :
-            confidenceOf (s .t) (columnOf (s .n) heard k) ≡ confidencesOfSound s rows lists table i k
+        pub confidences-heard : confidenceOf (s .t) (columnOf (s .n) heard k) ≡
+            confidence (s .n) (s .t) (s .faulty) rows lists table i k
         unfolding confidence column3 heard3 place3
-        confidences-heard =
-            ap (confidenceOf (s .t)) (column-is _ _ h e k l) ∙ sym (of-sound (s .faulty) _ i k is-sound)
+        confidences-heard = ap (confidenceOf (s .t)) (column-is _ _ h e k l)

@@ -333,7 +333,8 @@ fn step3_box(
     if sizes::is_member(seat.hall.settings.faulty, seat.i) {
         return;
     }
-    hear_all(n * n, seat, lists, table, second, heard);
+    let base = n * n;
+    hear_all(base, seat, lists, table, second, heard);
     put_votes(seat, second, heard, out);
 }
 
@@ -437,7 +438,8 @@ fn step4_box(
     if sizes::is_member(seat.hall.settings.faulty, seat.i) {
         return;
     }
-    hear_all(n * n + n * n * n, seat, lists, table, third, heard);
+    let base = n * n + n * n * n;
+    hear_all(base, seat, lists, table, third, heard);
     put_grades(seat, third, heard, rows, confidences);
 }
 

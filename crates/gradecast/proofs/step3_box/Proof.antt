@@ -31,8 +31,8 @@ returns c =
     let is-faulty = sym (c .before .is-member .ensures) ∙ c .if1 .taken in
     (λ rows e. seat-faulty (p .0) is-faulty _, p .3)
 
-mul-hear-all : tie.Need-mul-hear-all
-mul-hear-all c = omega (arith, square-le (start (c .before) .pre .0 .prepared .size .high))
+mul-base : tie.Need-mul-base
+mul-base c = omega (arith, square-le (start (c .before) .pre .0 .prepared .size .high))
 
 hear-all-requires : tie.Need-hear-all-requires
 hear-all-requires c κs =
@@ -67,7 +67,7 @@ step3-box-spec =
     (tie.spec
     is-member-requires
     returns
-    mul-hear-all
+    mul-base
     hear-all-requires
     put-votes-requires
     same-length

@@ -1,6 +1,6 @@
 -- `gradecast::step4` meets its contract: after i turns the grades of the boxes below i are put, and what every box
 -- hears alike is there, as it was put down before the first. What is left of n falls. Assumes nothing.
-use mathlib.Core.Path.{_≡_, sym, ap, _∙_}
+use mathlib.Core.Path.{_≡_, _∙_}
 use Prim.Native.Nat.{_-_, _≤_}
 use native.Mathlib.Omega.{arith}
 use lib.ListN.{length}

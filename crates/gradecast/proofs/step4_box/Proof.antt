@@ -39,17 +39,17 @@ returns c =
     let is-faulty = sym (c .before .is-member .ensures) ∙ c .if1 .taken in
     (λ rows e. seat-faulty (p .0) is-faulty _, (λ rows e. seat-faulty (p .0) is-faulty _, p .4))
 
-mul-hear-all : tie.Need-mul-hear-all
-mul-hear-all c = omega (arith, base-small c)
+mul-base : tie.Need-mul-base
+mul-base c = omega (arith, base-small c)
 
-mul-hear-all-2 : tie.Need-mul-hear-all-2
-mul-hear-all-2 c = omega (arith, base-small c)
+mul-base-2 : tie.Need-mul-base-2
+mul-base-2 c = omega (arith, base-small c)
 
-mul-hear-all-3 : tie.Need-mul-hear-all-3
-mul-hear-all-3 c = omega (arith, base-small c)
+mul-base-3 : tie.Need-mul-base-3
+mul-base-3 c = omega (arith, base-small c)
 
-add-hear-all : tie.Need-add-hear-all
-add-hear-all c = omega (arith, base-small c)
+add-base : tie.Need-add-base
+add-base c = omega (arith, base-small c)
 
 hear-all-requires : tie.Need-hear-all-requires
 hear-all-requires c κs =
@@ -92,10 +92,10 @@ step4-box-spec =
     (tie.spec
     is-member-requires
     returns
-    mul-hear-all
-    mul-hear-all-2
-    mul-hear-all-3
-    add-hear-all
+    mul-base
+    mul-base-2
+    mul-base-3
+    add-base
     hear-all-requires
     put-grades-requires
     same-length
