@@ -10,8 +10,7 @@ use Rattle.counting.specs.Sets.{member}
 use Rattle.sizes.specs.Sizes.{sound}
 use Rattle.tally.specs.Tally.{voteOf, confidenceOf, gradedRow}
 
--- the table: n² rows for step 1 (sender, then receiver), then n³ for step 2 (sender, receiver, leader) and n³ for step
--- 3
+-- the table: n² rows for step 1 (sender, then receiver), then n³ for step 2 (sender, receiver, leader), n³ for step 3
 unfoldable pub place1 : ℕ → ℕ → ℕ → ℕ
 place1 n sender receiver = sender * n + receiver
 

@@ -75,8 +75,7 @@ struct Seat {
     i: usize,
 }
 
-// What a box with this list hears from j: nothing from a listed box, the table's row from a faulty one, else j's own
-// row.
+// What a box with this list hears from j: nothing where j is listed, the table's row where j is faulty, else j's own.
 fn hear(settings: Settings, list: u16, table: &[u64], j: usize, place: usize, own: u64) -> u64
     requires { ⌜ place < length (now table) ⌝ }
     ensures { λ r. ⌜ r ≡ hears list j (sends (settings .faulty) (now (table .entry)) j place own) ⌝ }
@@ -355,7 +354,8 @@ fn step3(
     hear_plain(n, second, heard);
     let mut i: usize = 0;
     while i < n {
-        step3_box(Seat { hall, i }, lists, table, second, heard, out);
+        let seat = Seat { hall, i };
+        step3_box(seat, lists, table, second, heard, out);
         i += 1;
     }
 }
@@ -462,15 +462,8 @@ fn step4(
     hear_plain(n, third, heard);
     let mut i: usize = 0;
     while i < n {
-        step4_box(
-            Seat { hall, i },
-            lists,
-            table,
-            third,
-            heard,
-            rows,
-            confidences,
-        );
+        let seat = Seat { hall, i };
+        step4_box(seat, lists, table, third, heard, rows, confidences);
         i += 1;
     }
 }
@@ -519,8 +512,7 @@ fn sent_in_step1(n: usize, faulty: u16, rows: &[u64; 13]) -> usize
     sent
 }
 
-// The messages of steps 1 to 3, from the rows and from what the sound boxes send in steps 2 and 3: each goes to n
-// boxes.
+// The messages of steps 1 to 3, from the rows and what the sound boxes send in steps 2 and 3: each goes to n boxes.
 fn messages_of(settings: Settings, rows: &[u64; 13], second: &[u64], third: &[u64]) -> u64
     requires { ⌜ (settings .n ≤ 13) × (length (now second) ≡ 169) × (length (now third) ≡ 169) ⌝ }
     ensures { λ r. ⌜ AllSent settings (now (rows .entry)) (now (second .entry)) (now (third .entry)) r ⌝ }

@@ -1,5 +1,5 @@
--- `gradecast::steps_refusal` meets its contract: it makes the tests of refusals 4, 5 and 11 in their order. Assumes
--- nothing.
+-- `gradecast::steps_refusal` meets its contract: it makes the tests of refusals 4, 5 and 11 in their order.
+-- Assumes nothing.
 use mathlib.Core.Path.{_≡_, sym, _∙_}
 use native.Mathlib.Omega.{arith}
 use Rattle.sizes.specs.Sizes.{sizeRefusal}
