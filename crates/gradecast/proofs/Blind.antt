@@ -1,6 +1,5 @@
--- The table is read in faulty senders' places only, so two tables that say the same there give the same at every step: what is
--- heard in step 1, then the votes, then the grades and the messages.
--- Assumes nothing.
+-- The table is read in faulty senders' places only, so two tables that say the same there give the same at every step:
+-- what is heard in step 1, then the votes, then the grades and the messages. Assumes nothing.
 use mathlib.Core.Path.{_≡_, refl, sym, ap, ap₂, _∙_}
 use mathlib.Core.Bool.{Bool, true, false, cond, not}
 use mathlib.Core.List.{List}
@@ -13,7 +12,8 @@ use Rattle.counting.proofs.Build.{build-ext}
 use Rattle.counting.proofs.Count.{sum-ext, count-ext}
 use Rattle.sizes.specs.Sizes.{sound}
 use Rattle.tally.specs.Tally.{voteOf, confidenceOf, gradedRow}
-use Rattle.gradecast.specs.Steps.{place1, place2, place3, sends, hears, heard1, heard2, column2, voted, heard3, column3, confidence, gradeRow, messages}
+use Rattle.gradecast.specs.Steps.{place1, place2, place3, sends, hears, sent1, heard1, heard2, column2}
+use Rattle.gradecast.specs.Steps.{voted, heard3, column3, confidence, gradeRow, messages}
 use Rattle.gradecast.specs.Lies.{SameLies}
 use Rattle.gradecast.proofs.Messages.{sentByOne, messages-quick}
 
@@ -24,7 +24,8 @@ module _ (n t faulty : ℕ) (rows lists a b : List ℕ) (same : SameLies n fault
   unfolding hears sends
   heard-same i j place x y h e = ap (λ (m : ℕ). cond (member (getD lists i 0) j) 0 m) (go (member faulty j) h)
     where
-      go : (c : Bool) → (c ≡ true → getD a place 0 ≡ getD b place 0) → cond c (getD a place 0) x ≡ cond c (getD b place 0) y
+      go : (c : Bool) → (c ≡ true → getD a place 0 ≡ getD b place 0) →
+          cond c (getD a place 0) x ≡ cond c (getD b place 0) y
       go true f = f refl
       go false f = e
 
@@ -69,12 +70,15 @@ module _ (n t faulty : ℕ) (rows lists a b : List ℕ) (same : SameLies n fault
       (λ j lj. ap (λ (m : ℕ). cond (sound faulty j) m 0) (by-one j lj)))
       ∙ sym (messages-quick n t faulty rows lists b)
     where
-      non-zeros : (f g : ℕ → ℕ) → ((k : ℕ) → k < n → f k ≡ g k) → count n (λ k. not (eqb (f k) 0)) ≡ count n (λ k. not (eqb (g k) 0))
+      non-zeros : (f g : ℕ → ℕ) → ((k : ℕ) → k < n → f k ≡ g k) →
+          count n (λ k. not (eqb (f k) 0)) ≡ count n (λ k. not (eqb (g k) 0))
       non-zeros f g h =
           count-ext n (λ k. not (eqb (f k) 0)) (λ k. not (eqb (g k) 0)) (λ k l. ap (λ (m : ℕ). not (eqb m 0)) (h k l))
 
       by-one : (j : ℕ) → j < n → sentByOne n t faulty rows lists a j ≡ sentByOne n t faulty rows lists b j
       by-one j lj =
-          ap₂ (λ (x y : ℕ). cond (eqb (getD rows j 0) 0) 0 1 + x + y)
-          (non-zeros (heard1 n faulty rows lists a j) (heard1 n faulty rows lists b j) (λ k lk. heard1-same j k lj lk))
-          (non-zeros (voted n t faulty rows lists a j) (voted n t faulty rows lists b j) (λ k lk. voted-same j k lj lk))
+          ap₂ (λ (x y : ℕ). cond (eqb (sent1 rows j) 0) 0 1 + x + y)
+          (non-zeros (heard1 n faulty rows lists a j) (heard1 n faulty rows lists b j)
+          (λ k lk. heard1-same j k lj lk))
+          (non-zeros (voted n t faulty rows lists a j) (voted n t faulty rows lists b j)
+          (λ k lk. voted-same j k lj lk))

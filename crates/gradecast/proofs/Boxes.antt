@@ -28,7 +28,10 @@ is-box {n} {k = k} b = both (lt-ltb k n (b .below)) (b .is-sound)
 
 pub box-is : (n faulty k : ℕ) → (ltb k n && sound faulty k) ≡ true → SoundBox n faulty k
 box-is n faulty k h =
-    record { below = ltb-true k n (and-left (ltb k n) (sound faulty k) h); is-sound = and-right (ltb k n) (sound faulty k) h }
+    record {
+      below = ltb-true k n (and-left (ltb k n) (sound faulty k) h);
+      is-sound = and-right (ltb k n) (sound faulty k) h;
+    }
 
 pub no-box : (n faulty k : ℕ) → (SoundBox n faulty k → ⊥) → (ltb k n && sound faulty k) ≡ false
 no-box n faulty k h = ⊎-elim (λ t. absurd (h (box-is n faulty k t))) (λ f. f) (either (ltb k n && sound faulty k))

@@ -1,5 +1,5 @@
--- n rows of n numbers in 169 places: the number at place i * n + k is f i k, and row i is a part of its own. They are put there
--- row by row, a row from left to right, over zeros; a row of zeros need not be put.
+-- n rows of n numbers in 169 places: the number at place i * n + k is f i k, and row i is a part of its own. They are
+-- put there row by row, a row from left to right, over zeros; a row of zeros need not be put.
 -- Assumes nothing.
 use mathlib.Core.Path.{_≡_, refl, sym, ap, ap₂, _∙_, subst}
 use mathlib.Core.List.{List}
@@ -8,7 +8,7 @@ use native.Mathlib.Nat.{suc-mul, mul-le-mul-right}
 use native.Mathlib.Numerals.{add-one}
 use native.Mathlib.Omega.{arith}
 use lib.Arith.{digits-div, digits-mod}
-use lib.ListN.{length, getD, take, drop, set, replicate, length-drop, getD-replicate}
+use lib.ListN.{length, getD, take, drop, set, replicate, length-set, length-drop, getD-replicate}
 use lib.Seq.{getD-take, getD-drop, length-take-le}
 use Rattle.sizes.proofs.Laws.{square-le}
 use Rattle.counting.specs.Count.{build}
@@ -77,23 +77,40 @@ module _ (n : ℕ) (f : ℕ → ℕ → ℕ) where
       ∙ sym (ap₂ f (digits-div i l) (digits-mod i l) ∙ h m l))
       ∙ ap (λ (q : ℕ). cellsTo q n f) (omega arith)
 
--- the numbers of box i, put one by one
-module _ {n i : ℕ} (high : n ≤ 13) (below : i < n) (g : ℕ → ℕ) {out : List ℕ} where
-  pub put-none : PutTo n i 0 g out out
-  put-none = λ f h e. e ∙ ap (λ (q : ℕ). cellsTo q n f) (omega arith)
+-- a loop that puts the numbers of box i one by one, as g gives them: after k of n turns the first k are put, behind
+-- the cells that stood there first
+abbrev pub Putting : ℕ → ℕ → (ℕ → ℕ) → List ℕ → ℕ → List ℕ → Type 0
+Putting n i g first k out = (k ≤ n) × (length out ≡ length first) × PutTo n i k g first out
 
-  pub put-turn : (k : ℕ) (xs : List ℕ) {v : ℕ} → k < n → PutTo n i k g out xs → v ≡ g k → PutTo n i (k + 1) g out (set xs (i * n + k) v)
-  put-turn k xs l p h = λ f q e. cells-turn n f high below l (p f q e) (h ∙ sym (q k l))
+pub put-begins : (n i : ℕ) (g : ℕ → ℕ) (first : List ℕ) → Putting n i g first 0 first
+put-begins n i g first = (omega arith, refl, λ f h e. e ∙ ap (λ (q : ℕ). cellsTo q n f) (omega arith))
 
-  pub put-whole : {m : ℕ} {last : List ℕ} → m ≡ n → PutTo n i m g out last → PutTo n i n g out last
-  put-whole q p = λ f h e. p f h e ∙ ap (λ (m : ℕ). cellsTo (i * n + m) n f) q
+module _ {n i : ℕ} (high : n ≤ 13) (below : i < n) (g : ℕ → ℕ) {first : List ℕ} where
+  pub put-turn : (k : ℕ) (out : List ℕ) {v : ℕ} → Putting n i g first k out → k < n → v ≡ g k →
+      Putting n i g first (k + 1) (set out (i * n + k) v)
+  put-turn k out {v} p l h = (
+    omega (arith, l),
+    length-set out (i * n + k) v ∙ p .1,
+    λ f q e. cells-turn n f high below l (p .2 f q e) (h ∙ sym (q k l)),
+  )
+
+  -- the next cell is one of those that stood there
+  pub put-fits : {k : ℕ} {out : List ℕ} → length first ≡ 169 → Putting n i g first k out → k < n →
+      i * n + k < length out
+  put-fits whole p l = omega (arith, place-fits high below l, whole, p .1)
+
+  pub put-ends : {k : ℕ} {out : List ℕ} → Putting n i g first k out → n ≤ k → PutTo n i n g first out
+  put-ends {k = k} p l =
+      let q : k ≡ n = omega (arith, p .0, l) in
+      λ f h e. p .2 f h e ∙ ap (λ (m : ℕ). cellsTo (i * n + m) n f) q
 
   -- nothing is put for a faulty box
-  pub put-nothing : ((k : ℕ) → k < n → g k ≡ 0) → PutTo n i n g out out
+  pub put-nothing : ((k : ℕ) → k < n → g k ≡ 0) → PutTo n i n g first first
   put-nothing z = λ f h e. e ∙ cells-skip n f i high below (λ k l. h k l ∙ z k l) n (omega arith)
 
   -- the same numbers by another name
-  pub put-same : (b : ℕ → ℕ) {last : List ℕ} → ((k : ℕ) → k < n → b k ≡ g k) → PutTo n i n b out last → PutTo n i n g out last
+  pub put-same : (b : ℕ → ℕ) {last : List ℕ} → ((k : ℕ) → k < n → b k ≡ g k) → PutTo n i n b first last →
+      PutTo n i n g first last
   put-same b z p = λ f h e. p f (λ k l. h k l ∙ sym (z k l)) e
 
 -- the boxes, one by one
@@ -104,3 +121,20 @@ box-turn n i f e p = p f (λ k l. refl) e ∙ ap (λ (m : ℕ). cellsTo m n f) (
 pub box-whole : {n i : ℕ} (f : ℕ → ℕ → ℕ) {out : List ℕ} → i ≡ n → out ≡ cellsTo (i * n) n f → out ≡ cells n f
 unfolding cells
 box-whole {n} f h e = e ∙ ap (λ (m : ℕ). cellsTo (m * n) n f) h
+
+-- a loop that goes through the boxes: after i of n turns the cells of the boxes below i are put. They come from rows
+-- that the loop does not know, but for what P says of them
+abbrev pub BoxesTo : ℕ → (List ℕ → Type 0) → (List ℕ → ℕ → ℕ → ℕ) → ℕ → List ℕ → Type 0
+BoxesTo n P f i out = (length out ≡ 169) × ((rows : List ℕ) → P rows → out ≡ cellsTo (i * n) n (f rows))
+
+module _ (n : ℕ) (P : List ℕ → Type 0) (f : List ℕ → ℕ → ℕ → ℕ) where
+  pub boxes-begin : {out : List ℕ} → out ≡ replicate 169 0 → BoxesTo n P f 0 out
+  boxes-begin e = (ap length e, λ rows h. e ∙ cells-none n (f rows))
+
+  pub boxes-turn : (i : ℕ) {out last : List ℕ} → BoxesTo n P f i out → length last ≡ length out →
+      ((rows : List ℕ) → P rows → PutTo n i n (f rows i) out last) → BoxesTo n P f (i + 1) last
+  boxes-turn i b same p = (same ∙ b .0, λ rows h. box-turn n i (f rows) (b .1 rows h) (p rows h))
+
+  pub boxes-end : {i : ℕ} {out : List ℕ} → i ≡ n → BoxesTo n P f i out →
+      (rows : List ℕ) → P rows → out ≡ cells n (f rows)
+  boxes-end q b = λ rows h. box-whole (f rows) q (b .1 rows h)

@@ -1,29 +1,29 @@
--- What a box hears in step 2 or 3. It is put down sender by sender, each sender's rows one below the other, so that a leader's
--- column is a part of its own. That column is the document's: the cell at j * n + k is what box j sends about leader k where j is
--- sound, and a faulty box's cell is never heard.
+-- What a box hears in step 2 or 3. It is put down sender by sender, each sender's rows one below the other, so that a
+-- leader's column is a part of its own. That column is the document's: the cell at j * n + k is what box j sends about
+-- leader k where j is sound, and a faulty box's cell is never heard.
 -- Assumes nothing.
 use mathlib.Core.Path.{_≡_, refl, sym, ap, _∙_}
 use mathlib.Core.List.{List}
 use mathlib.Core.Logic.{⊎-elim}
-use mathlib.Core.Bool.{false}
 use Prim.Native.Nat.{ℕ, _+_, _-_, _*_, _/_, _%_, _≤_, _<_}
 use native.Mathlib.Omega.{arith}
 use lib.Arith.{digits-div, digits-mod}
-use lib.ListN.{length, getD, take, drop, set, length-drop}
+use lib.ListN.{length, getD, take, drop, set, length-set, length-drop}
 use lib.Seq.{getD-set-same, getD-set-other, length-take-le}
 use Rattle.counting.specs.Count.{build}
-use Rattle.counting.specs.Sets.{member}
-use Rattle.counting.proofs.Build.{build-ext}
 use Rattle.counting.proofs.Count.{at-or-below}
 use Rattle.tally.specs.Tally.{voteOf, confidenceOf, gradedRow}
 use Rattle.tally.specs.Reply.{voteReply, gradeReply}
 use Rattle.sizes.proofs.Laws.{Sized}
 use Rattle.tally.proofs.Taken.{vote-row, grade-row, grade-confidence}
-use Rattle.gradecast.specs.Steps.{placeFrom, place2, place3, sends, hears, heard1, heard2, column2, voted, heard3, column3, gradeRow, confidence}
+use Rattle.gradecast.specs.Steps.{placeFrom, place2, place3, sends, hears, heard2, column2, voted}
+use Rattle.gradecast.specs.Steps.{heard3, column3, gradeRow, confidence}
 use Rattle.gradecast.specs.Cast.{ofSound, cells}
-use Rattle.gradecast.specs.Inside.{heardFrom, SendersTo, AllHeard, FromSender, columnOf, SaidSecond, SaidThird}
-use Rattle.gradecast.proofs.Cells.{cells-at, part-fits, part-built}
-use Rattle.gradecast.proofs.Sound.{of-sound, sends-sound}
+use Rattle.gradecast.specs.declared.Settings.{Settings}
+use Rattle.gradecast.specs.Inside.{RightSize, heardFrom, SendersTo, AllHeard, FromSender, columnOf}
+use Rattle.gradecast.specs.Inside.{SaidSecond, SaidThird}
+use Rattle.gradecast.proofs.Cells.{cells-at, part-fits, place-fits, part-built}
+use Rattle.gradecast.proofs.Sound.{sends-sound}
 
 -- two digits in base n are told by their number
 digits-high : {n : ℕ} (a b c d : ℕ) → b < n → d < n → a * n + b ≡ c * n + d → a ≡ c
@@ -32,36 +32,51 @@ digits-high {n} a b c d hb hd e = sym (digits-div a hb) ∙ ap (λ (m : ℕ). m 
 digits-low : {n : ℕ} (a b c d : ℕ) → b < n → d < n → a * n + b ≡ c * n + d → b ≡ d
 digits-low {n} a b c d hb hd e = sym (digits-mod a hb) ∙ ap (λ (m : ℕ). m % n) e ∙ digits-mod c hd
 
--- the rows of sender j, put down one by one
-module _ {n j : ℕ} (g : ℕ → ℕ) {first : List ℕ} where
-  pub sender-none : FromSender n j 0 g first first
-  sender-none = record { put = λ k l. absurd (omega arith); stays = λ k other l d. refl }
+-- a loop that puts down the rows of sender j one by one, as g gives them: after k of n turns the first k are there,
+-- and the other senders' rows stand as they did first
+abbrev pub Hearing : ℕ → ℕ → (ℕ → ℕ) → List ℕ → ℕ → List ℕ → Type 0
+Hearing n j g first k heard = (k ≤ n) × (length heard ≡ length first) × FromSender n j k g first heard
 
-  pub sender-turn : (k : ℕ) (heard : List ℕ) {v : ℕ} → n ≤ 13 → k < n → j < n → length heard ≡ 169 →
-      FromSender n j k g first heard → v ≡ g k → FromSender n j (k + 1) g first (set heard (k * n + j) v)
-  sender-turn k heard {v} high hk hj size h e =
-      record { put = λ a l. ⊎-elim (at a) (below a) (at-or-below a k (omega arith)); stays = stays }
+pub sender-begins : (n j : ℕ) (g : ℕ → ℕ) (first : List ℕ) → Hearing n j g first 0 first
+sender-begins n j g first =
+    (omega arith, refl, record { put = λ k l. absurd (omega arith); stays = λ k other l d. refl })
+
+module _ {n j : ℕ} (high : n ≤ 13) (below : j < n) (g : ℕ → ℕ) {first : List ℕ} (whole : length first ≡ 169) where
+  pub sender-turn : (k : ℕ) (heard : List ℕ) {v : ℕ} → Hearing n j g first k heard → k < n → v ≡ g k →
+      Hearing n j g first (k + 1) (set heard (k * n + j) v)
+  sender-turn k heard {v} h l e = (
+    omega (arith, l),
+    length-set heard (k * n + j) v ∙ h .1,
+    record { put = λ a la. ⊎-elim (at a) (before a) (at-or-below a k (omega arith)); stays = stays },
+  )
     where
       at : (a : ℕ) → a ≡ k → getD (set heard (k * n + j) v) (a * n + j) 0 ≡ g a
       at a q =
           ap (λ (m : ℕ). getD (set heard (k * n + j) v) (m * n + j) 0) q
-          ∙ getD-set-same heard (k * n + j) v 0 (omega (arith, part-fits high hk))
+          ∙ getD-set-same heard (k * n + j) v 0 (omega (arith, part-fits high l, whole, h .1))
           ∙ e
           ∙ ap g (sym q)
 
-      below : (a : ℕ) → a < k → getD (set heard (k * n + j) v) (a * n + j) 0 ≡ g a
-      below a l =
-          getD-set-other heard (k * n + j) (a * n + j) v 0 (λ q. absurd (omega (arith, digits-high a j k j hj hj q)))
-          ∙ h .put a l
+      before : (a : ℕ) → a < k → getD (set heard (k * n + j) v) (a * n + j) 0 ≡ g a
+      before a la =
+          getD-set-other heard (k * n + j) (a * n + j) v 0
+          (λ q. absurd (omega (arith, digits-high a j k j below below q)))
+          ∙ h .2 .put a la
 
       stays : (a other : ℕ) → other < n → (other ≡ j → ⊥) →
           getD (set heard (k * n + j) v) (a * n + other) 0 ≡ getD first (a * n + other) 0
-      stays a other l d =
-          getD-set-other heard (k * n + j) (a * n + other) v 0 (λ q. d (digits-low a other k j l hj q))
-          ∙ h .stays a other l d
+      stays a other lo d =
+          getD-set-other heard (k * n + j) (a * n + other) v 0 (λ q. d (digits-low a other k j lo below q))
+          ∙ h .2 .stays a other lo d
 
-  pub sender-whole : {m : ℕ} {last : List ℕ} → m ≡ n → FromSender n j m g first last → FromSender n j n g first last
-  sender-whole q p = record { put = λ k l. p .put k (omega arith); stays = p .stays }
+  -- the next row's place is one of those that stood there
+  pub sender-fits : {k : ℕ} {heard : List ℕ} → Hearing n j g first k heard → k < n → k * n + j < length heard
+  sender-fits h l = omega (arith, place-fits high l below, whole, h .1)
+
+-- all of them are there
+pub sender-ends : {n j k : ℕ} (g : ℕ → ℕ) {first heard : List ℕ} → Hearing n j g first k heard → n ≤ k →
+    FromSender n j n g first heard
+sender-ends g h l = record { put = λ a la. h .2 .put a (omega (arith, la, l)); stays = h .2 .stays }
 
 -- one more sender's rows are there
 pub senders-turn : {n j : ℕ} (g : ℕ → ℕ → ℕ) {heard last : List ℕ} → j < n → SendersTo n j g heard →
@@ -75,92 +90,85 @@ senders-turn {n} {j} g {heard} {last} hj h p =
     below : (k b : ℕ) → k < n → b < j → getD last (k * n + b) 0 ≡ g k b
     below k b hk l = p .stays k b (omega arith) (λ q. absurd (omega arith)) ∙ h k b hk l
 
--- a leader's column
-pub column-heard : (base n list faulty : ℕ) (table said : List ℕ) (i : ℕ) (heard : List ℕ) →
-    n ≤ 13 → length heard ≡ 169 → AllHeard base n list faulty table said i heard →
-    (k : ℕ) → k < n → columnOf n heard k ≡ build n (heardFrom base n list faulty table said i k)
-unfolding columnOf
-column-heard base n list faulty table said i heard high size h k hk =
-    part-built n k (heardFrom base n list faulty table said i k) heard high hk size (λ j hj. h k j hk hj)
+-- a leader's column lies within what was heard
+pub column-fits : {s : Settings} {k : ℕ} (heard : List ℕ) → RightSize s → k < s .n → length heard ≡ 169 →
+    k * s .n + s .n ≤ length heard
+column-fits heard size leader all = omega (arith, part-fits (size .high) leader, all)
 
 -- vote and grade over a leader's column, which the code takes from k * n to k * n + n
-module _ {n k : ℕ} (t : ℕ) (low : 1 ≤ n) (high : n ≤ 13) (few : 3 * t < n) (leader : k < n) (heard : List ℕ) (size : length heard ≡ 169) where
-  -- the part that the code takes
-  abbrev part : List ℕ
-  part = take (k * n + n - k * n) (drop (k * n) heard)
+module _
+    (s : Settings) {k : ℕ} (size : RightSize s) (leader : k < s .n) (heard : List ℕ) (all : length heard ≡ 169)
+  where
+    abbrev n : ℕ
+    n = s .n
 
-  part-column : part ≡ columnOf n heard k
-  unfolding columnOf
-  part-column = let whole : k * n + n - k * n ≡ n = omega arith in ap (λ (m : ℕ). take m (drop (k * n) heard)) whole
+    abbrev t : ℕ
+    t = s .t
 
-  fits : Sized (length (columnOf n heard k)) t
-  unfolding columnOf
-  fits =
-      let m = length-take-le n (drop (k * n) heard) (omega (arith, length-drop (k * n) heard, part-fits high leader)) in
-      record { low = omega arith; high = omega arith; few = omega arith }
+    -- the part that the code takes
+    abbrev part : List ℕ
+    part = take (k * n + n - k * n) (drop (k * n) heard)
 
-  pub part-vote : voteReply part t .row ≡ voteOf t (columnOf n heard k)
-  part-vote = ap (λ (xs : List ℕ). voteReply xs t .row) part-column ∙ vote-row (columnOf n heard k) t fits
+    part-column : part ≡ columnOf n heard k
+    unfolding columnOf
+    part-column = let whole : k * n + n - k * n ≡ n = omega arith in ap (λ (m : ℕ). take m (drop (k * n) heard)) whole
 
-  pub part-row : gradeReply part t .row ≡ gradedRow t (columnOf n heard k)
-  part-row = ap (λ (xs : List ℕ). gradeReply xs t .row) part-column ∙ grade-row (columnOf n heard k) t fits
+    fits : Sized (length (columnOf n heard k)) t
+    unfolding columnOf
+    fits =
+        let left = length-drop (k * n) heard in
+        let m = length-take-le n (drop (k * n) heard) (omega (arith, left, part-fits (size .high) leader, all)) in
+        record {
+          low = omega (arith, m, size .low);
+          high = omega (arith, m, size .high);
+          few = omega (arith, m, size .tolerated);
+        }
 
-  pub part-confidence : gradeReply part t .confidence ≡ confidenceOf t (columnOf n heard k)
-  part-confidence = ap (λ (xs : List ℕ). gradeReply xs t .confidence) part-column ∙ grade-confidence (columnOf n heard k) t fits
+    pub part-vote : voteReply part t .row ≡ voteOf t (columnOf n heard k)
+    part-vote = ap (λ (xs : List ℕ). voteReply xs t .row) part-column ∙ vote-row (columnOf n heard k) t fits
 
-module _ (n faulty : ℕ) (lists table said : List ℕ) (i k : ℕ) (leader : k < n) where
-  -- for any step: said holds what the sound boxes send
-  column-is : (base : ℕ) (f : ℕ → ℕ → ℕ) → said ≡ cells n (ofSound faulty f) →
-      build n (heardFrom base n (getD lists i 0) faulty table said i k) ≡
-      build n (λ j. hears (getD lists i 0) j (sends faulty table j (placeFrom base n j i k) (f j k)))
-  unfolding heardFrom
-  column-is base f e =
-      build-ext n (heardFrom base n (getD lists i 0) faulty table said i k)
-      (λ j. hears (getD lists i 0) j (sends faulty table j (placeFrom base n j i k) (f j k)))
-      (λ j l.
-      ap (λ (m : ℕ). hears (getD lists i 0) j (sends faulty table j (placeFrom base n j i k) m))
-      (ap (λ (xs : List ℕ). getD xs (j * n + k) 0) e ∙ cells-at n (ofSound faulty f) j k l leader)
-      ∙ ap (hears (getD lists i 0) j) (sends-sound faulty table f j k (placeFrom base n j i k)))
+    pub part-row : gradeReply part t .row ≡ gradedRow t (columnOf n heard k)
+    part-row = ap (λ (xs : List ℕ). gradeReply xs t .row) part-column ∙ grade-row (columnOf n heard k) t fits
 
-  column-2 : (rows : List ℕ) → SaidSecond n faulty lists table said rows →
-      build n (heardFrom (n * n) n (getD lists i 0) faulty table said i k) ≡ column2 n faulty rows lists table i k
-  unfolding column2 heard2 place2
-  column-2 rows e = column-is (n * n) (heard1 n faulty rows lists table) e
+    pub part-confidence : gradeReply part t .confidence ≡ confidenceOf t (columnOf n heard k)
+    part-confidence =
+        ap (λ (xs : List ℕ). gradeReply xs t .confidence) part-column ∙ grade-confidence (columnOf n heard k) t fits
 
-  column-3 : (t : ℕ) (rows : List ℕ) → SaidThird n t faulty lists table said rows →
-      build n (heardFrom (n * n + n * n * n) n (getD lists i 0) faulty table said i k) ≡ column3 n t faulty rows lists table i k
-  unfolding column3 heard3 place3
-  column-3 t rows e = column-is (n * n + n * n * n) (voted n t faulty rows lists table) e
+-- what a box makes of the columns that it heard
+module _
+    (s : Settings) (lists table said heard : List ℕ) (i : ℕ)
+    (high : s .n ≤ 13) (size : length heard ≡ 169) (rows : List ℕ)
+  where
+    -- for any step: said holds what the sound boxes send, and so a leader's column is what they send about it
+    column-is : (base : ℕ) (f : ℕ → ℕ → ℕ) → AllHeard base s (getD lists i 0) table said i heard →
+        said ≡ cells (s .n) (ofSound (s .faulty) f) → (k : ℕ) → k < s .n →
+        columnOf (s .n) heard k ≡
+        build (s .n) (λ j. hears (getD lists i 0) j (sends (s .faulty) table j (placeFrom base (s .n) j i k) (f j k)))
+    unfolding columnOf heardFrom
+    column-is base f h e k leader =
+        part-built (s .n) k _ heard high leader size
+        (λ j l.
+        h k j leader l
+        ∙ ap (λ (m : ℕ). hears (getD lists i 0) j (sends (s .faulty) table j (placeFrom base (s .n) j i k) m))
+        (ap (λ (xs : List ℕ). getD xs (j * s .n + k) 0) e ∙ cells-at (s .n) (ofSound (s .faulty) f) j k l leader)
+        ∙ ap (hears (getD lists i 0) j) (sends-sound (s .faulty) table f j k (placeFrom base (s .n) j i k)))
 
--- what a sound box makes of the columns that it heard
-module _ (n t faulty : ℕ) (lists table said heard : List ℕ) (i : ℕ) (high : n ≤ 13) (size : length heard ≡ 169) (is-sound : member faulty i ≡ false) (rows : List ℕ) where
-  pub votes-heard : AllHeard (n * n) n (getD lists i 0) faulty table said i heard →
-      SaidSecond n faulty lists table said rows →
-      (k : ℕ) → k < n → voteOf t (columnOf n heard k) ≡ ofSound faulty (voted n t faulty rows lists table) i k
-  unfolding voted
-  votes-heard h e k l =
-      ap (voteOf t) (column-heard (n * n) n (getD lists i 0) faulty table said i heard high size h k l ∙ column-2 n faulty lists table said i k l rows e)
-      ∙ sym (of-sound faulty (voted n t faulty rows lists table) i k is-sound)
+    pub votes-heard : AllHeard (s .n * s .n) s (getD lists i 0) table said i heard →
+        SaidSecond s lists table said rows → (k : ℕ) → k < s .n →
+        voteOf (s .t) (columnOf (s .n) heard k) ≡ voted (s .n) (s .t) (s .faulty) rows lists table i k
+    unfolding voted column2 heard2 place2
+    votes-heard h e k l = ap (voteOf (s .t)) (column-is _ _ h e k l)
 
-  module _
-      (h : AllHeard (n * n + n * n * n) n (getD lists i 0) faulty table said i heard)
-      (e : SaidThird n t faulty lists table said rows)
-    where
-      third : (k : ℕ) → k < n → columnOf n heard k ≡ column3 n t faulty rows lists table i k
-      third k l =
-          column-heard (n * n + n * n * n) n (getD lists i 0) faulty table said i heard high size h k l
-          ∙ column-3 n faulty lists table said i k l t rows e
+    module _
+        (h : AllHeard (s .n * s .n + s .n * s .n * s .n) s (getD lists i 0) table said i heard)
+        (e : SaidThird s lists table said rows) (k : ℕ) (l : k < s .n)
+      where
+        pub rows-heard : gradedRow (s .t) (columnOf (s .n) heard k) ≡
+            gradeRow (s .n) (s .t) (s .faulty) rows lists table i k
+        unfolding gradeRow column3 heard3 place3
+        rows-heard = ap (gradedRow (s .t)) (column-is _ _ h e k l)
 
-      pub rows-heard : (k : ℕ) → k < n →
-          gradedRow t (columnOf n heard k) ≡ ofSound faulty (gradeRow n t faulty rows lists table) i k
-      unfolding gradeRow
-      rows-heard k l =
-          ap (gradedRow t) (third k l)
-          ∙ sym (of-sound faulty (gradeRow n t faulty rows lists table) i k is-sound)
-
-      pub confidences-heard : (k : ℕ) → k < n →
-          confidenceOf t (columnOf n heard k) ≡ ofSound faulty (confidence n t faulty rows lists table) i k
-      unfolding confidence
-      confidences-heard k l =
-          ap (confidenceOf t) (third k l)
-          ∙ sym (of-sound faulty (confidence n t faulty rows lists table) i k is-sound)
+        pub confidences-heard : confidenceOf (s .t) (columnOf (s .n) heard k) ≡
+            confidence (s .n) (s .t) (s .faulty) rows lists table i k
+        unfolding confidence column3 heard3 place3
+        confidences-heard = ap (confidenceOf (s .t)) (column-is _ _ h e k l)

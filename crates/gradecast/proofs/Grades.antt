@@ -20,6 +20,7 @@ module _ (n t faulty : ℕ) (rows lists table : List ℕ) (i k : ℕ) where
   unfolding confidence gradeRow
   row-none = graded-none t (column3 n t faulty rows lists table i k)
 
-  pub row-not-zero : (confidence n t faulty rows lists table i k ≡ 0 → ⊥) → gradeRow n t faulty rows lists table i k ≡ 0 → ⊥
+  pub row-not-zero : (confidence n t faulty rows lists table i k ≡ 0 → ⊥) →
+      gradeRow n t faulty rows lists table i k ≡ 0 → ⊥
   unfolding confidence gradeRow
   row-not-zero z = graded-counts t (column3 n t faulty rows lists table i k) z .0

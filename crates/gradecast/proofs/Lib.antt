@@ -13,3 +13,4 @@ pub mod Properties
 pub mod Replies
 pub mod Sent
 pub mod Sound
+pub mod Wrong

@@ -1,5 +1,5 @@
--- Columns that agree at the sound boxes differ in at most as many places as there are faulty boxes, so the places of a row do.
--- Assumes nothing.
+-- Columns that agree at the sound boxes differ in at most as many places as there are faulty boxes, so the places of a
+-- row do. Assumes nothing.
 use mathlib.Core.Path.{_≡_, refl, _∙_, subst}
 use mathlib.Core.Bool.{true, not, _&&_}
 use Prim.Native.Nat.{ℕ, _+_, _≤_}
@@ -31,13 +31,12 @@ near n faulty f g v h =
       places-build n f v,
       places-build n g v,
       count-parted n (λ j. eqb (f j) v) (member faulty),
-      count-mono n (λ j. eqb (f j) v && member faulty j) (member faulty) (λ j l t. and-right (eqb (f j) v) (member faulty j) t),
+      count-mono n (λ j. eqb (f j) v && member faulty j) (member faulty)
+          (λ j l t. and-right (eqb (f j) v) (member faulty j) t),
       count-mono n (λ j. eqb (f j) v && not (member faulty j)) (λ j. eqb (g j) v)
           (λ j l t.
+          let not-faulty = not-true (member faulty j) (and-right (eqb (f j) v) (not (member faulty j)) t) in
           subst (λ (m : ℕ). eqb m v ≡ true)
-          (h j (record {
-            below = l;
-            is-sound = not-faulty-sound faulty j (not-true (member faulty j) (and-right (eqb (f j) v) (not (member faulty j)) t));
-          }))
+          (h j (record { below = l; is-sound = not-faulty-sound faulty j not-faulty }))
           (and-left (eqb (f j) v) (not (member faulty j)) t)),
     )

@@ -1,6 +1,5 @@
--- Places in the table and in 169 cells: each is a number written with the digits sender, receiver and leader in base n, so it is
--- below n² or n³, and n is at most 13.
--- Assumes nothing.
+-- Places in the table and in 169 cells: each is a number written with the digits sender, receiver and leader in base
+-- n, so it is below n² or n³, and n is at most 13. Assumes nothing.
 use Prim.Native.Nat.{ℕ, _+_, _*_, _≤_, _<_}
 use native.Mathlib.Omega.{arith}
 use lib.Arith.{digits-lt}

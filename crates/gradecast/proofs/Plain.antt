@@ -16,6 +16,7 @@ use Rattle.counting.proofs.Bools.{never, or-false-left, or-false-right}
 use Rattle.counting.proofs.Count.{any-none, at-or-below}
 use Rattle.counting.proofs.Sets.{member-or}
 use Rattle.gradecast.specs.Steps.{sends, hears}
+use Rattle.gradecast.specs.declared.Settings.{Settings}
 use Rattle.gradecast.specs.Inside.{heardFrom, SendersTo, FromSender, saidBy, oddTo, OddSet, PlainHeard}
 
 -- the set of the faulty boxes, to which one list after the other is put
@@ -47,34 +48,35 @@ module _ (faulty : ℕ) (lists : List ℕ) where
       listed : ℕ → Bool
       listed a = member (getD lists a 0) j
 
-module _ (n faulty : ℕ) (lists said : List ℕ) where
+module _ (s : Settings) (lists said : List ℕ) where
   module _ (base : ℕ) (table : List ℕ) (i : ℕ) (is-box : i < 13) where
-    -- what a box hears from a sender that is neither faulty nor listed
-    plain-heard : (k j : ℕ) → oddTo 13 faulty lists j ≡ false →
-        heardFrom base n (getD lists i 0) faulty table said i k j ≡ saidBy n said k j
+    -- what the box hears from each sender about each leader
+    abbrev heard-by : ℕ → ℕ → ℕ
+    heard-by = heardFrom base s (getD lists i 0) table said i
+
+    -- from a sender that is neither faulty nor listed
+    plain-heard : (k j : ℕ) → oddTo 13 (s .faulty) lists j ≡ false → heard-by k j ≡ saidBy (s .n) said k j
     unfolding heardFrom hears sends oddTo
     plain-heard k j h =
         rw (
-          not-odd-listed faulty lists j h i is-box,
-          or-false-left (member faulty j) (any 13 (λ a. member (getD lists a 0) j)) h,
+          not-odd-listed (s .faulty) lists j h i is-box,
+          or-false-left (member (s .faulty) j) (any 13 (λ a. member (getD lists a 0) j)) h,
         )
         refl
 
     -- so its rows are there already
-    pub plain-turn : (j : ℕ) (heard : List ℕ) → j < n → oddTo 13 faulty lists j ≡ false →
-        PlainHeard n faulty lists said heard →
-        SendersTo n j (heardFrom base n (getD lists i 0) faulty table said i) heard →
-        SendersTo n (j + 1) (heardFrom base n (getD lists i 0) faulty table said i) heard
+    pub plain-turn : (j : ℕ) (heard : List ℕ) → j < s .n → oddTo 13 (s .faulty) lists j ≡ false →
+        PlainHeard s lists said heard → SendersTo (s .n) j heard-by heard → SendersTo (s .n) (j + 1) heard-by heard
     plain-turn j heard hj o plain h = λ k b hk l. ⊎-elim (at k b hk) (h k b hk) (at-or-below b j (omega arith))
       where
-        at : (k b : ℕ) → k < n → b ≡ j →
-            getD heard (k * n + b) 0 ≡ heardFrom base n (getD lists i 0) faulty table said i k b
+        at : (k b : ℕ) → k < s .n → b ≡ j → getD heard (k * s .n + b) 0 ≡ heard-by k b
         at k b hk q =
-            let ob = ap (oddTo 13 faulty lists) q ∙ o in
+            let ob = ap (oddTo 13 (s .faulty) lists) q ∙ o in
             plain k b hk (omega arith) ob ∙ sym (plain-heard k b ob)
 
   -- the rows of another sender leave them as they are
-  pub plain-stays : (j : ℕ) (g : ℕ → ℕ) (heard last : List ℕ) → oddTo 13 faulty lists j ≡ true →
-      FromSender n j n g heard last → PlainHeard n faulty lists said heard → PlainHeard n faulty lists said last
+  pub plain-stays : (j : ℕ) (g : ℕ → ℕ) (heard last : List ℕ) → oddTo 13 (s .faulty) lists j ≡ true →
+      FromSender (s .n) j (s .n) g heard last → PlainHeard s lists said heard → PlainHeard s lists said last
   plain-stays j g heard last o p h =
-      λ k b hk hb plain. p .stays k b hb (λ q. never (ap (oddTo 13 faulty lists) q ∙ o) plain) ∙ h k b hk hb plain
+      λ k b hk hb plain.
+      p .stays k b hb (λ q. never (ap (oddTo 13 (s .faulty) lists) q ∙ o) plain) ∙ h k b hk hb plain

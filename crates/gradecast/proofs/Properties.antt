@@ -1,9 +1,8 @@
--- Gradecast keeps its promises. Two columns that agree at the sound boxes differ in at most t places, so the places of a
--- row differ by at most t. All else is counting with 3t < n: what every sound box says stands n − t times, which is more
--- than half and more than 2t; what no sound box says stands at most t times, too few for a vote or a grade; two votes of
--- n − t places at two sound boxes are n − 2t and n − t places in one column, more than there are; and a support of 2t + 1
--- at one sound box is t + 1 at another.
--- Assumes nothing.
+-- Gradecast keeps its promises. Two columns that agree at the sound boxes differ in at most t places, so the places of
+-- a row differ by at most t. All else is counting with 3t < n: what every sound box says stands n − t times, which is
+-- more than half and more than 2t; what no sound box says stands at most t times, too few for a vote or a grade; two
+-- votes of n − t places at two sound boxes are n − 2t and n − t places in one column, more than there are; and a
+-- support of 2t + 1 at one sound box is t + 1 at another. Assumes nothing.
 use mathlib.Core.Path.{_≡_, refl, sym, _∙_}
 use mathlib.Core.Bool.{true, cond}
 use mathlib.Core.List.{List}
@@ -20,8 +19,10 @@ use Rattle.counting.proofs.Build.{length-build}
 use Rattle.counting.proofs.Count.{Between, count-more}
 use Rattle.counting.proofs.Places.{places-build, places-one}
 use Rattle.tally.specs.Tally.{voteOf, confidenceOf, gradedRow, supportOf}
-use Rattle.tally.proofs.Laws.{vote-carried, vote-none, vote-is, confidence-2, confidence-0, places-support, graded-counts, graded-firm}
-use Rattle.gradecast.specs.Steps.{place1, place2, place3, sends, hears, heard1, heard2, column2, voted, heard3, column3, confidence, gradeRow}
+use Rattle.tally.proofs.Laws.{vote-carried, vote-none, vote-is, confidence-2, confidence-0, places-support}
+use Rattle.tally.proofs.Laws.{graded-counts, graded-firm}
+use Rattle.gradecast.specs.Steps.{place1, place2, place3, sends, hears, heard1, heard2, column2, voted}
+use Rattle.gradecast.specs.Steps.{heard3, column3, confidence, gradeRow}
 use Rattle.gradecast.specs.Fair.{SoundBox, Fair, Gradecast, faultyBoxes}
 use Rattle.gradecast.specs.Inside.{Calm, plainConfidence}
 use Rattle.gradecast.proofs.Boxes.{sound-not-faulty, not-faulty-sound}

@@ -1,5 +1,5 @@
--- The reply of steps 1 to 4, put together: refused with its number, or what they find. A call that is not refused is ready for
--- them, and one that is ready is not refused.
+-- The reply of steps 1 to 4, put together: refused with its number, or what they find. A call that is not refused is
+-- ready for them, and one that is ready is not refused.
 -- Assumes nothing.
 use mathlib.Core.Path.{_≡_, refl, sym, _∙_}
 use mathlib.Core.Bool.{not}
@@ -13,11 +13,13 @@ use Rattle.counting.specs.Refuse.Refusal.{refuse}
 use Rattle.counting.proofs.Bools.{not-false, not-of-true, not-of-false}
 use Rattle.counting.proofs.Refuse.{accepted, refused, passed, none-left}
 use Rattle.sizes.specs.Sizes.{outside, tooMany, sizeRefusal, tableRows, byN}
-use Rattle.sizes.proofs.Laws.{inside, inside-low, inside-high, tolerated-lt, by-n-inside, sized, sized-passes, size-given, size-passed}
+use Rattle.sizes.proofs.Laws.{inside, inside-low, inside-high, tolerated-lt, by-n-inside}
+use Rattle.sizes.proofs.Laws.{sized, sized-passes, size-given, size-passed}
 use Rattle.gradecast.specs.declared.Cast.{Cast}
 use Rattle.gradecast.specs.Steps.{gradeRow, confidence, messages}
 use Rattle.gradecast.specs.Cast.{ofSound, cells, castOf, castRefusal, noCast, castReply}
-use Rattle.gradecast.specs.Inside.{Ready}
+use Rattle.gradecast.specs.declared.Settings.{Settings}
+use Rattle.gradecast.specs.Inside.{Ready, RightSize}
 
 module _ (n t : ℕ) (table : List ℕ) where
   -- the test behind 4 and 5
@@ -40,16 +42,17 @@ module _ (n t : ℕ) (table : List ℕ) where
     unfolding castRefusal
     steps-pass q = sym (size-passed n t last e ∙ passed 11 [] (not-of-true (eq-eqb _ _ (q ∙ named))) ∙ none-left)
 
-  -- not refused and ready are the same
-  pub steps-few : castRefusal n t table ≡ 0 → 3 * t < n
+  few : castRefusal n t table ≡ 0 → 3 * t < n
   unfolding castRefusal
-  steps-few e = tolerated-lt n t (accepted 4 (tooMany n t) last (accepted 3 (outside n) _ e .1) .0)
+  few e = tolerated-lt n t (accepted 4 (tooMany n t) last (accepted 3 (outside n) _ e .1) .0)
 
+  -- not refused and ready are the same
   pub steps-ready : castRefusal n t table ≡ 0 → Ready n table
   unfolding castRefusal
   steps-ready e =
       let first = accepted 3 (outside n) _ e in
-      let whole = accepted 10 (not (eqb (length table) (tableRows n))) [] (accepted 4 (tooMany n t) last (first .1) .1) in
+      let second = accepted 4 (tooMany n t) last (first .1) in
+      let whole = accepted 10 (not (eqb (length table) (tableRows n))) [] (second .1) in
       record {
         low = inside-low n (first .0);
         high = inside-high n (first .0);
@@ -62,6 +65,12 @@ module _ (n t : ℕ) (table : List ℕ) where
       size-passed n t last (sized-passes n t (record { low = r .low; high = r .high; few = few }))
       ∙ passed 11 [] (not-of-true (eq-eqb _ _ (r .whole)))
       ∙ none-left
+
+-- and then the numbers of boxes are right
+pub steps-sized : (s : Settings) (table : List ℕ) → castRefusal (s .n) (s .t) table ≡ 0 → RightSize s
+steps-sized s table e =
+    let ready = steps-ready (s .n) (s .t) table e in
+    record { low = ready .low; high = ready .high; tolerated = few (s .n) (s .t) table e }
 
 module _ (n t faulty : ℕ) (rows lists table : List ℕ) where
   -- a reply is what the steps find where each of its parts is
@@ -79,10 +88,7 @@ module _ (n t faulty : ℕ) (rows lists table : List ℕ) where
   unfolding castReply noCast
   cast-refused r e h = rw (← e, ne-eqb r 0 h) refl
 
-  pub cast-taken : castRefusal n t table ≡ 0 → castOf n t faulty rows lists table ≡ castReply n t faulty rows lists table
+  pub cast-taken : castRefusal n t table ≡ 0 →
+      castOf n t faulty rows lists table ≡ castReply n t faulty rows lists table
   unfolding castReply
   cast-taken e = rw e refl
-
-  -- two replies to the same call are the same
-  pub steps-unique : (r s : Cast) → r ≡ castReply n t faulty rows lists table → s ≡ castReply n t faulty rows lists table → r ≡ s
-  steps-unique r s p q = p ∙ sym q

@@ -1,5 +1,6 @@
--- The number of messages as the code counts it: the rows of step 1, the cells of step 2 and the cells of step 3 that are not 0,
--- each sent to n boxes. It is the definition's sum over senders and receivers, since a faulty box's cells are 0.
+-- The number of messages as the code counts it: the rows of step 1, the cells of step 2 and the cells of step 3 that
+-- are not 0, each sent to n boxes. It is the definition's sum over senders and receivers, since a faulty box's cells
+-- are 0.
 -- Assumes nothing.
 use mathlib.Core.Path.{_≡_, refl, sym, ap, ap₂, _∙_}
 use mathlib.Core.Bool.{Bool, true, false, cond, not, _&&_}
@@ -15,14 +16,11 @@ use Rattle.counting.proofs.Bools.{cond-true, cond-false}
 use Rattle.counting.proofs.Build.{front-take, length-build, getD-build}
 use Rattle.counting.proofs.Count.{count-ext, count-none, count-rows, count-sum, sum-ext, sum-add}
 use Rattle.sizes.specs.Sizes.{sound}
-use Rattle.gradecast.specs.Steps.{heard1, voted, messages}
+use Rattle.gradecast.specs.Steps.{sent1, sent2, sent3, messages}
 use Rattle.gradecast.specs.Cast.{ofSound, cellsTo, cells}
-use Rattle.gradecast.specs.Inside.{SaidSecond, SaidThird}
+use Rattle.gradecast.specs.declared.Settings.{Settings}
+use Rattle.gradecast.specs.Inside.{SaidSecond, SaidThird, filled, sendsFirst}
 use Rattle.gradecast.proofs.Messages.{sentByOne, messages-quick}
-
--- how many numbers of a list are not 0
-abbrev pub filled : List ℕ → ℕ
-filled xs = count (length xs) (λ k. not (eqb (getD xs k 0) 0))
 
 -- the cells of n rows of n that are not 0, row by row
 pub filled-cells : (n faulty : ℕ) (f : ℕ → ℕ → ℕ) (xs : List ℕ) → xs ≡ cells n (ofSound faulty f) →
@@ -66,33 +64,38 @@ first true true = refl
 first true false = refl
 first false c = refl
 
-module _ (n t faulty : ℕ) (rows lists table second third : List ℕ) where
+module _ (s : Settings) (rows lists table second third : List ℕ) where
+  abbrev n : ℕ
+  n = s .n
+
+  -- what sound box j sends in each step, and 0 for a faulty one
+  abbrev in-step1 : ℕ → ℕ
+  in-step1 j = cond (sound (s .faulty) j) (cond (eqb (sent1 rows j) 0) 0 1) 0
+
+  abbrev in-step2 : ℕ → ℕ
+  in-step2 j =
+      cond (sound (s .faulty) j) (count n (λ k. not (eqb (sent2 n (s .faulty) rows lists table j k) 0))) 0
+
+  abbrev in-step3 : ℕ → ℕ
+  in-step3 j =
+      cond (sound (s .faulty) j) (count n (λ k. not (eqb (sent3 n (s .t) (s .faulty) rows lists table j k) 0))) 0
+
+  boxes : count n (sendsFirst (s .faulty) rows) ≡ sum n in-step1
+  boxes =
+      count-sum n (sendsFirst (s .faulty) rows)
+      ∙ sum-ext n (λ j. cond (sendsFirst (s .faulty) rows j) 1 0) in-step1
+      (λ j l. first (sound (s .faulty) j) (eqb (sent1 rows j) 0))
+
   -- the three counts together, n times
-  pub messages-counted : SaidSecond n faulty lists table second rows → SaidThird n t faulty lists table third rows →
-      n *
-      (count n (λ j. sound faulty j && not (eqb (getD rows j 0) 0)) + filled (take (n * n) second) + filled (take (n * n) third)) ≡
-      messages n t faulty rows lists table
+  pub messages-counted : SaidSecond s lists table second rows → SaidThird s lists table third rows →
+      n * (count n (sendsFirst (s .faulty) rows) + filled (take (n * n) second) + filled (take (n * n) third)) ≡
+      messages n (s .t) (s .faulty) rows lists table
   messages-counted e₂ e₃ =
       ap (λ (m : ℕ). n * m)
-      (ap₂ _+_ (ap₂ _+_ boxes (filled-cells n faulty (heard1 n faulty rows lists table) second e₂))
-      (filled-cells n faulty (voted n t faulty rows lists table) third e₃)
-      ∙ ap (λ (m : ℕ). m + sum n c) (sym (sum-add n a b))
-      ∙ sym (sum-add n (λ j. a j + b j) c)
-      ∙ sum-ext n (λ j. a j + b j + c j) (λ j. cond (sound faulty j) (sentByOne n t faulty rows lists table j) 0)
-      (λ j l. sym (parted (sound faulty j) _ _ _)))
-      ∙ sym (messages-quick n t faulty rows lists table)
-    where
-      a : ℕ → ℕ
-      a j = cond (sound faulty j) (cond (eqb (getD rows j 0) 0) 0 1) 0
-
-      b : ℕ → ℕ
-      b j = cond (sound faulty j) (count n (λ k. not (eqb (heard1 n faulty rows lists table j k) 0))) 0
-
-      c : ℕ → ℕ
-      c j = cond (sound faulty j) (count n (λ k. not (eqb (voted n t faulty rows lists table j k) 0))) 0
-
-      boxes : count n (λ j. sound faulty j && not (eqb (getD rows j 0) 0)) ≡ sum n a
-      boxes =
-          count-sum n (λ j. sound faulty j && not (eqb (getD rows j 0) 0))
-          ∙ sum-ext n (λ j. cond (sound faulty j && not (eqb (getD rows j 0) 0)) 1 0) a
-          (λ j l. first (sound faulty j) (eqb (getD rows j 0) 0))
+      (ap₂ _+_ (ap₂ _+_ boxes (filled-cells n (s .faulty) _ second e₂)) (filled-cells n (s .faulty) _ third e₃)
+      ∙ ap (λ (m : ℕ). m + sum n in-step3) (sym (sum-add n in-step1 in-step2))
+      ∙ sym (sum-add n (λ j. in-step1 j + in-step2 j) in-step3)
+      ∙ sum-ext n (λ j. in-step1 j + in-step2 j + in-step3 j)
+      (λ j. cond (sound (s .faulty) j) (sentByOne n (s .t) (s .faulty) rows lists table j) 0)
+      (λ j l. sym (parted (sound (s .faulty) j) _ _ _)))
+      ∙ sym (messages-quick n (s .t) (s .faulty) rows lists table)

@@ -1,5 +1,5 @@
--- Steps 1 to 4 of one iteration, for every box at once. Boxes and leaders count from 0. The rows and the lists are those
--- held when the iteration began; the table says what the faulty boxes send.
+-- Steps 1 to 4 of one iteration, for every box at once. Boxes and leaders count from 0. The rows and the lists are
+-- those held when the iteration began; the table says what the faulty boxes send.
 use Prim.Native.Nat.{ℕ, _+_, _*_}
 use mathlib.Core.Bool.{cond, not}
 use mathlib.Core.List.{List}
@@ -10,7 +10,7 @@ use Rattle.counting.specs.Sets.{member}
 use Rattle.sizes.specs.Sizes.{sound}
 use Rattle.tally.specs.Tally.{voteOf, confidenceOf, gradedRow}
 
--- the table: n² rows for step 1 (sender, then receiver), then n³ for step 2 (sender, receiver, leader) and n³ for step 3
+-- the table: n² rows for step 1 (sender, then receiver), then n³ for step 2 (sender, receiver, leader), n³ for step 3
 unfoldable pub place1 : ℕ → ℕ → ℕ → ℕ
 place1 n sender receiver = sender * n + receiver
 
@@ -34,14 +34,25 @@ sends faulty table j place m = cond (member faulty j) (getD table place 0) m
 unfoldable pub hears : ℕ → ℕ → ℕ → ℕ
 hears list j m = cond (member list j) 0 m
 
-module _ (n faulty : ℕ) (rows lists table : List ℕ) where
-  -- step 1, V[k]: what box i hears from k, whose row it is
-  unfoldable pub heard1 : ℕ → ℕ → ℕ
-  heard1 i k = hears (getD lists i 0) k (sends faulty table k (place1 n k i) (getD rows k 0))
+-- What a sound box sends is named once for each step, sent1 to sent3: what is heard cites it, and so does what is
+-- counted.
 
-  -- step 2, X[j][k]: what box i hears from j about leader k, each sound box sending V
+-- step 1: a sound box j sends its row to all n boxes
+abbrev pub sent1 : List ℕ → ℕ → ℕ
+sent1 rows j = getD rows j 0
+
+module _ (n faulty : ℕ) (rows lists table : List ℕ) where
+  -- step 1, V[k]: what box i hears from k
+  unfoldable pub heard1 : ℕ → ℕ → ℕ
+  heard1 i k = hears (getD lists i 0) k (sends faulty table k (place1 n k i) (sent1 rows k))
+
+  -- step 2: a sound box j sends V to all, so about leader k what it heard from k in step 1
+  abbrev pub sent2 : ℕ → ℕ → ℕ
+  sent2 j k = heard1 j k
+
+  -- step 2, X[j][k]: what box i hears from j about leader k
   unfoldable pub heard2 : ℕ → ℕ → ℕ → ℕ
-  heard2 i j k = hears (getD lists i 0) j (sends faulty table j (place2 n j i k) (heard1 j k))
+  heard2 i j k = hears (getD lists i 0) j (sends faulty table j (place2 n j i k) (sent2 j k))
 
   -- X[1][k] to X[n][k]
   unfoldable pub column2 : ℕ → ℕ → List ℕ
@@ -52,9 +63,13 @@ module _ (n t faulty : ℕ) (rows lists table : List ℕ) where
   unfoldable pub voted : ℕ → ℕ → ℕ
   voted i k = voteOf t (column2 n faulty rows lists table i k)
 
-  -- step 3, Z[j][k]: what box i hears from j about leader k, each sound box sending Y
+  -- step 3: a sound box j sends Y to all, so its vote about leader k
+  abbrev pub sent3 : ℕ → ℕ → ℕ
+  sent3 j k = voted j k
+
+  -- step 3, Z[j][k]: what box i hears from j about leader k
   unfoldable pub heard3 : ℕ → ℕ → ℕ → ℕ
-  heard3 i j k = hears (getD lists i 0) j (sends faulty table j (place3 n j i k) (voted j k))
+  heard3 i j k = hears (getD lists i 0) j (sends faulty table j (place3 n j i k) (sent3 j k))
 
   -- Z[1][k] to Z[n][k]
   unfoldable pub column3 : ℕ → ℕ → List ℕ
@@ -71,9 +86,9 @@ module _ (n t faulty : ℕ) (rows lists table : List ℕ) where
   -- the non-zero rows that a sound box j sends to box i: its own row in step 1, a row for each leader in steps 2 and 3
   unfoldable pub sentTo : ℕ → ℕ → ℕ
   sentTo j i =
-      cond (eqb (getD rows j 0) 0) 0 1 +
-      count n (λ k. not (eqb (heard1 n faulty rows lists table j k) 0)) +
-      count n (λ k. not (eqb (voted j k) 0))
+      cond (eqb (sent1 rows j) 0) 0 1 +
+      count n (λ k. not (eqb (sent2 n faulty rows lists table j k) 0)) +
+      count n (λ k. not (eqb (sent3 j k) 0))
 
   -- messages of one iteration: by every sound sender to every receiver, the box itself being one of the n
   unfoldable pub messages : ℕ

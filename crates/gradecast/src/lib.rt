@@ -6,19 +6,24 @@ ghost use lib.Dec.{eqb};
 ghost use lib.ListN.{length, getD, replicate};
 ghost use Rattle.counting.specs.Count.{count};
 ghost use Rattle.counting.specs.Sets.{member};
-ghost use Rattle.sizes.specs.Sizes.{sound, tableRows};
+ghost use Rattle.sizes.specs.Sizes.{sound};
 ghost use Rattle.tally.specs.Tally.{voteOf, confidenceOf, gradedRow};
-ghost use Rattle.gradecast.specs.Steps.{place1, placeFrom, sends, hears, heard1};
-ghost use Rattle.gradecast.specs.Cast.{ofSound, cells, castOf, castRefusal, castReply};
+ghost use Rattle.gradecast.specs.Steps.{place1, placeFrom, sends, hears};
+ghost use Rattle.gradecast.specs.Cast.{castOf, castRefusal, castReply};
 ghost use Rattle.gradecast.specs.Fair.{faultyBoxes};
 ghost use Rattle.gradecast.specs.Inside.{
   Ready,
   RightSize,
   Prepared,
+  Seated,
+  RowsFit,
   AskedFor,
   Among,
   heardFrom,
   onLeader,
+  voteBy,
+  rowBy,
+  confidenceBy,
   plainConfidence,
   SendersTo,
   AllHeard,
@@ -27,16 +32,20 @@ ghost use Rattle.gradecast.specs.Inside.{
   OddSet,
   PlainHeard,
   PutTo,
+  firstOfSound,
+  SaidSecond,
   PutVotes,
   AllVotes,
   PutRows,
   PutConfidences,
   AllGrades,
+  filled,
+  sendsFirst,
   AllSent,
 };
 
-// What all boxes make of all leaders: the messages of steps 1 to 3, and the row and the confidence that box i gives leader k at
-// place i * n + k; 0 in a faulty box's place.
+// What all boxes make of all leaders: the messages of steps 1 to 3, and the row and the confidence that box i gives
+// leader k at place i * n + k; 0 in a faulty box's place.
 pub struct Cast {
     pub refusal: u8,
     pub sent: u64,
@@ -44,25 +53,37 @@ pub struct Cast {
     pub confidences: [u8; 169],
 }
 
-// What is the same for all boxes of one call: how many there are, how many may be faulty and which are; the boxes that
-// are faulty or on some list; and the leaders that must be counted.
+// What a call sets for all boxes: how many there are, how many may be faulty, and which are. What else all boxes go by
+// is put here too, so that no function takes more arguments for it.
+pub struct Settings {
+    pub n: usize,
+    pub t: u8,
+    pub faulty: u16,
+}
+
+// What is the same for all boxes of one call: the settings; the boxes that are faulty or on some list; and the leaders
+// that must be counted.
 struct Hall {
-    n: usize,
-    t: u8,
-    faulty: u16,
+    settings: Settings,
     odd: u16,
     asked: u16,
 }
 
-// What a box with this list hears from j: nothing from a listed box, the table's row from a faulty one, else j's own row.
-fn hear(list: u16, faulty: u16, table: &[u64], j: usize, place: usize, own: u64) -> u64
+// Box i of the hall.
+struct Seat {
+    hall: Hall,
+    i: usize,
+}
+
+// What a box with this list hears from j: nothing where j is listed, the table's row where j is faulty, else j's own.
+fn hear(settings: Settings, list: u16, table: &[u64], j: usize, place: usize, own: u64) -> u64
     requires { ⌜ place < length (now table) ⌝ }
-    ensures { λ r. ⌜ r ≡ hears list j (sends faulty (now (table .entry)) j place own) ⌝ }
+    ensures { λ r. ⌜ r ≡ hears list j (sends (settings .faulty) (now (table .entry)) j place own) ⌝ }
 {
     if sizes::is_member(list, j) {
         return 0;
     }
-    if sizes::is_member(faulty, j) {
+    if sizes::is_member(settings.faulty, j) {
         return table[place];
     }
     own
@@ -86,36 +107,41 @@ fn place_from(base: usize, n: usize, sender: usize, receiver: usize, leader: usi
 
 // Step 1 for box i: V, which a sound box sends in step 2. A faulty box's cells stay 0.
 fn step1_box(
-    n: usize,
-    faulty: u16,
+    settings: Settings,
     rows: &[u64; 13],
     lists: &[u16; 13],
     table: &[u64],
     i: usize,
     out: &mut [u64],
 )
-    requires { ⌜ Ready n (now table) × (i < n) × (length (now out) ≡ 169) ⌝ }
-    ensures { λ r. ⌜ PutTo n i n (ofSound faulty (heard1 n faulty (now (rows .entry)) (now (lists .entry)) (now (table .entry))) i) (now (out .entry)) (now (out .exit)) ⌝ }
+    requires { ⌜ Ready (settings .n) (now table) × (i < settings .n) × (length (now out) ≡ 169) ⌝ }
+    ensures { λ r. ⌜ PutTo (settings .n) i (settings .n)
+        (firstOfSound settings (now (rows .entry)) (now (lists .entry)) (now (table .entry)) i)
+        (now (out .entry)) (now (out .exit)) ⌝ }
 {
-    if sizes::is_member(faulty, i) {
+    if sizes::is_member(settings.faulty, i) {
         return;
     }
+    let n = settings.n;
+    let list = lists[i];
     let mut k: usize = 0;
     while k < n {
         let place = place_of_first(n, k, i);
-        out[i * n + k] = hear(lists[i], faulty, table, k, place, rows[k]);
+        out[i * n + k] = hear(settings, list, table, k, place, rows[k]);
         k += 1;
     }
 }
 
 // Step 1: V of every sound box, put to cells that are 0.
-fn step1(n: usize, faulty: u16, rows: &[u64; 13], lists: &[u16; 13], table: &[u64], out: &mut [u64])
-    requires { ⌜ Ready n (now table) × (now out ≡ replicate 169 0) ⌝ }
-    ensures { λ r. ⌜ now (out .exit) ≡ cells n (ofSound faulty (heard1 n faulty (now (rows .entry)) (now (lists .entry)) (now (table .entry)))) ⌝ }
+fn step1(settings: Settings, rows: &[u64; 13], lists: &[u16; 13], table: &[u64], out: &mut [u64])
+    requires { ⌜ Ready (settings .n) (now table) × (now out ≡ replicate 169 0) ⌝ }
+    ensures { λ r. ⌜ SaidSecond settings (now (lists .entry)) (now (table .entry)) (now (out .exit))
+        (now (rows .entry)) ⌝ }
 {
+    let n = settings.n;
     let mut i: usize = 0;
     while i < n {
-        step1_box(n, faulty, rows, lists, table, i, out);
+        step1_box(settings, rows, lists, table, i, out);
         i += 1;
     }
 }
@@ -155,15 +181,16 @@ fn faulty_boxes(n: usize, faulty: u16) -> usize
 
 // The leaders that must be counted: the faulty ones, where at most t boxes are faulty and the lists hold no sound box;
 // else all. What a box heard from any other leader in step 1 is its vote in step 3 and the row of its grade in step 4.
-fn asked_leaders(n: usize, t: u8, faulty: u16, odd: u16) -> u16
-    requires { ⌜ (n ≤ 13) × (3 * t < n) ⌝ }
-    ensures { λ r. ⌜ AskedFor n t faulty odd r ⌝ }
+fn asked_leaders(settings: Settings, odd: u16) -> u16
+    requires { ⌜ RightSize settings ⌝ }
+    ensures { λ r. ⌜ AskedFor settings odd r ⌝ }
 {
-    if faulty_boxes(n, faulty) > t as usize {
+    let most = settings.t as usize;
+    if faulty_boxes(settings.n, settings.faulty) > most {
         return 65535;
     }
-    if odd == faulty {
-        return faulty;
+    if odd == settings.faulty {
+        return settings.faulty;
     }
     65535
 }
@@ -194,56 +221,60 @@ fn hear_plain(n: usize, said: &[u64; 169], heard: &mut [u64])
     }
 }
 
-// What box i with this list hears from box j about every leader, where sound boxes send said and the table's rows begin at base.
-// Whether j is listed or faulty does not change from leader to leader, so the leaders are gone through inside.
+// What the box in this seat, with this list, hears from box j about every leader, where sound boxes send said and the
+// table's rows begin at base. Whether j is listed or faulty does not change from leader to leader, so the leaders are
+// gone through inside.
 fn hear_from(
     base: usize,
-    n: usize,
+    seat: Seat,
     list: u16,
-    faulty: u16,
     table: &[u64],
     said: &[u64; 169],
-    i: usize,
     j: usize,
     heard: &mut [u64],
 )
-    requires { ⌜ Ready n (now table) × Among n i j × (base + n * n * n ≤ tableRows n) × (length (now heard) ≡ 169) ⌝ }
-    ensures { λ r. ⌜ FromSender n j n
-        (λ k. heardFrom base n list faulty (now (table .entry)) (now (said .entry)) i k j)
+    requires { ⌜ Ready (seat .hall .settings .n) (now table) × Among (seat .hall .settings .n) (seat .i) j ×
+        RowsFit base (seat .hall .settings .n) × (length (now heard) ≡ 169) ⌝ }
+    ensures { λ r. ⌜ FromSender (seat .hall .settings .n) j (seat .hall .settings .n)
+        (λ k. heardFrom base (seat .hall .settings) list (now (table .entry)) (now (said .entry)) (seat .i) k j)
         (now (heard .entry)) (now (heard .exit)) ⌝ }
 {
+    let settings = seat.hall.settings;
+    let n = settings.n;
+    let i = seat.i;
     let mut k: usize = 0;
     while k < n {
         let place = place_from(base, n, j, i, k);
-        heard[k * n + j] = hear(list, faulty, table, j, place, said[j * n + k]);
+        heard[k * n + j] = hear(settings, list, table, j, place, said[j * n + k]);
         k += 1;
     }
 }
 
-// What box i hears from all boxes about all leaders, a column for each leader. What the senders say that are neither
-// faulty nor listed is there already, and stays for the next box; only the other senders are gone through.
+// What the box in this seat hears from all boxes about all leaders, a column for each leader. What the senders say
+// that are neither faulty nor listed is there already, and stays for the next box; only the other senders are gone
+// through.
 fn hear_all(
     base: usize,
-    hall: Hall,
+    seat: Seat,
     lists: &[u16; 13],
     table: &[u64],
     said: &[u64; 169],
-    i: usize,
     heard: &mut [u64],
 )
-    requires { ⌜ Prepared hall (now lists) (now table) × (i < hall .n) ×
-        (base + hall .n * hall .n * hall .n ≤ tableRows (hall .n)) × (length (now heard) ≡ 169) ×
-        PlainHeard (hall .n) (hall .faulty) (now lists) (now said) (now heard) ⌝ }
-    ensures { λ r. ⌜ AllHeard base (hall .n) (getD (now (lists .entry)) i 0) (hall .faulty) (now (table .entry))
-        (now (said .entry)) i (now (heard .exit)) ⌝ }
-    ensures { λ r. ⌜ PlainHeard (hall .n) (hall .faulty) (now (lists .entry)) (now (said .entry))
+    requires { ⌜ Seated seat (now lists) (now table) × RowsFit base (seat .hall .settings .n) ×
+        (length (now heard) ≡ 169) × PlainHeard (seat .hall .settings) (now lists) (now said) (now heard) ⌝ }
+    ensures { λ r. ⌜ AllHeard base (seat .hall .settings) (getD (now (lists .entry)) (seat .i) 0)
+        (now (table .entry)) (now (said .entry)) (seat .i) (now (heard .exit)) ⌝ }
+    ensures { λ r. ⌜ PlainHeard (seat .hall .settings) (now (lists .entry)) (now (said .entry))
         (now (heard .exit)) ⌝ }
 {
-    let n = hall.n;
+    let n = seat.hall.settings.n;
+    let i = seat.i;
+    let list = lists[i];
     let mut j: usize = 0;
     while j < n {
-        if sizes::is_member(hall.odd, j) {
-            hear_from(base, n, lists[i], hall.faulty, table, said, i, j, heard);
+        if sizes::is_member(seat.hall.odd, j) {
+            hear_from(base, seat, list, table, said, j, heard);
         }
         j += 1;
     }
@@ -251,56 +282,59 @@ fn hear_all(
 
 // The vote over leader k's column, where k must be counted; else what the box itself said about k.
 fn vote_on(hall: Hall, own: u64, heard: &[u64], k: usize) -> u64
-    requires { ⌜ RightSize hall × (k < hall .n) × (length (now heard) ≡ 169) ⌝ }
+    requires { ⌜ RightSize (hall .settings) × (k < hall .settings .n) × (length (now heard) ≡ 169) ⌝ }
     ensures { λ r. ⌜ r ≡ onLeader hall voteOf own (now (heard .entry)) k ⌝ }
 {
     if sizes::is_member(hall.asked, k) {
-        let from = k * hall.n;
-        let end = from + hall.n;
-        return tally::vote(&heard[from..end], hall.t).row;
+        let n = hall.settings.n;
+        let from = k * n;
+        let end = from + n;
+        return tally::vote(&heard[from..end], hall.settings.t).row;
     }
     own
 }
 
-// The votes of box i, which said this in step 2, from the columns that it heard.
-fn put_votes(hall: Hall, said: &[u64; 169], heard: &[u64], i: usize, out: &mut [u64])
-    requires { ⌜ RightSize hall × (i < hall .n) × (length (now heard) ≡ 169) × (length (now out) ≡ 169) ⌝ }
-    ensures { λ r. ⌜ PutTo (hall .n) i (hall .n)
-        (λ k. onLeader hall voteOf (saidBy (hall .n) (now (said .entry)) k i) (now (heard .entry)) k)
-        (now (out .entry)) (now (out .exit)) ⌝ }
+// The votes of the box in this seat, which said this in step 2, from the columns that it heard.
+fn put_votes(seat: Seat, said: &[u64; 169], heard: &[u64], out: &mut [u64])
+    requires { ⌜ RightSize (seat .hall .settings) × (seat .i < seat .hall .settings .n) ×
+        (length (now heard) ≡ 169) × (length (now out) ≡ 169) ⌝ }
+    ensures { λ r. ⌜ PutTo (seat .hall .settings .n) (seat .i) (seat .hall .settings .n)
+        (voteBy seat (now (said .entry)) (now (heard .entry))) (now (out .entry)) (now (out .exit)) ⌝ }
 {
-    let n = hall.n;
+    let n = seat.hall.settings.n;
+    let i = seat.i;
     let mut k: usize = 0;
     while k < n {
         let place = i * n + k;
-        out[place] = vote_on(hall, said[place], heard, k);
+        out[place] = vote_on(seat.hall, said[place], heard, k);
         k += 1;
     }
 }
 
-// Steps 2 and 3 for box i: Y, which a sound box sends in step 3, from the V of all boxes. A faulty box's cells stay 0.
+// Steps 2 and 3 for the box in this seat: Y, which a sound box sends in step 3, from the V of all boxes. A faulty
+// box's cells stay 0.
 fn step3_box(
-    hall: Hall,
+    seat: Seat,
     lists: &[u16; 13],
     table: &[u64],
     second: &[u64; 169],
-    i: usize,
     heard: &mut [u64],
     out: &mut [u64],
 )
-    requires { ⌜ Prepared hall (now lists) (now table) × (i < hall .n) × (length (now heard) ≡ 169) ×
-        (length (now out) ≡ 169) × PlainHeard (hall .n) (hall .faulty) (now lists) (now second) (now heard) ⌝ }
-    ensures { λ r. ⌜ PutVotes (hall .n) (hall .t) (hall .faulty) (now (lists .entry)) (now (table .entry))
-        (now (second .entry)) i (now (out .entry)) (now (out .exit)) ⌝ }
-    ensures { λ r. ⌜ PlainHeard (hall .n) (hall .faulty) (now (lists .entry)) (now (second .entry))
+    requires { ⌜ Seated seat (now lists) (now table) × (length (now heard) ≡ 169) × (length (now out) ≡ 169) ×
+        PlainHeard (seat .hall .settings) (now lists) (now second) (now heard) ⌝ }
+    ensures { λ r. ⌜ PutVotes (seat .hall .settings) (now (lists .entry)) (now (table .entry))
+        (now (second .entry)) (seat .i) (now (out .entry)) (now (out .exit)) ⌝ }
+    ensures { λ r. ⌜ PlainHeard (seat .hall .settings) (now (lists .entry)) (now (second .entry))
         (now (heard .exit)) ⌝ }
 {
-    let n = hall.n;
-    if sizes::is_member(hall.faulty, i) {
+    let n = seat.hall.settings.n;
+    if sizes::is_member(seat.hall.settings.faulty, seat.i) {
         return;
     }
-    hear_all(n * n, hall, lists, table, second, i, heard);
-    put_votes(hall, second, heard, i, out);
+    let base = n * n;
+    hear_all(base, seat, lists, table, second, heard);
+    put_votes(seat, second, heard, out);
 }
 
 // Steps 2 and 3: Y of every sound box, put to cells that are 0.
@@ -313,14 +347,15 @@ fn step3(
     out: &mut [u64],
 )
     requires { ⌜ Prepared hall (now lists) (now table) × (length (now heard) ≡ 169) × (now out ≡ replicate 169 0) ⌝ }
-    ensures { λ r. ⌜ AllVotes (hall .n) (hall .t) (hall .faulty) (now (lists .entry)) (now (table .entry))
-        (now (second .entry)) (now (out .exit)) ⌝ }
+    ensures { λ r. ⌜ AllVotes (hall .settings) (now (lists .entry)) (now (table .entry)) (now (second .entry))
+        (now (out .exit)) ⌝ }
 {
-    let n = hall.n;
+    let n = hall.settings.n;
     hear_plain(n, second, heard);
     let mut i: usize = 0;
     while i < n {
-        step3_box(hall, lists, table, second, i, heard, out);
+        let seat = Seat { hall, i };
+        step3_box(seat, lists, table, second, heard, out);
         i += 1;
     }
 }
@@ -339,75 +374,73 @@ fn plain_grade(row: u64) -> tally::Graded
 
 // The grade over leader k's column, where k must be counted; else the one that every sound box gives k.
 fn grade_on(hall: Hall, own: u64, heard: &[u64], k: usize) -> tally::Graded
-    requires { ⌜ RightSize hall × (k < hall .n) × (length (now heard) ≡ 169) ⌝ }
+    requires { ⌜ RightSize (hall .settings) × (k < hall .settings .n) × (length (now heard) ≡ 169) ⌝ }
     ensures { λ r. ⌜ (r .row ≡ onLeader hall gradedRow own (now (heard .entry)) k) ×
         (r .confidence ≡ onLeader hall confidenceOf (plainConfidence own) (now (heard .entry)) k) ⌝ }
 {
     if sizes::is_member(hall.asked, k) {
-        let from = k * hall.n;
-        let end = from + hall.n;
-        return tally::grade(&heard[from..end], hall.t);
+        let n = hall.settings.n;
+        let from = k * n;
+        let end = from + n;
+        return tally::grade(&heard[from..end], hall.settings.t);
     }
     plain_grade(own)
 }
 
-// The grades of box i, which said this in step 3, from the columns that it heard.
+// The grades of the box in this seat, which said this in step 3, from the columns that it heard.
 fn put_grades(
-    hall: Hall,
+    seat: Seat,
     said: &[u64; 169],
     heard: &[u64],
-    i: usize,
     rows: &mut [u64],
     confidences: &mut [u8],
 )
-    requires { ⌜ RightSize hall × (i < hall .n) × (length (now heard) ≡ 169) × (length (now rows) ≡ 169) ×
-        (length (now confidences) ≡ 169) ⌝ }
-    ensures { λ r. ⌜ PutTo (hall .n) i (hall .n)
-        (λ k. onLeader hall gradedRow (saidBy (hall .n) (now (said .entry)) k i) (now (heard .entry)) k)
-        (now (rows .entry)) (now (rows .exit)) ⌝ }
-    ensures { λ r. ⌜ PutTo (hall .n) i (hall .n)
-        (λ k. onLeader hall confidenceOf (plainConfidence (saidBy (hall .n) (now (said .entry)) k i))
-        (now (heard .entry)) k)
+    requires { ⌜ RightSize (seat .hall .settings) × (seat .i < seat .hall .settings .n) ×
+        (length (now heard) ≡ 169) × (length (now rows) ≡ 169) × (length (now confidences) ≡ 169) ⌝ }
+    ensures { λ r. ⌜ PutTo (seat .hall .settings .n) (seat .i) (seat .hall .settings .n)
+        (rowBy seat (now (said .entry)) (now (heard .entry))) (now (rows .entry)) (now (rows .exit)) ⌝ }
+    ensures { λ r. ⌜ PutTo (seat .hall .settings .n) (seat .i) (seat .hall .settings .n)
+        (confidenceBy seat (now (said .entry)) (now (heard .entry)))
         (now (confidences .entry)) (now (confidences .exit)) ⌝ }
 {
-    let n = hall.n;
+    let n = seat.hall.settings.n;
+    let i = seat.i;
     let mut k: usize = 0;
     while k < n {
         let place = i * n + k;
-        let graded = grade_on(hall, said[place], heard, k);
+        let graded = grade_on(seat.hall, said[place], heard, k);
         rows[place] = graded.row;
         confidences[place] = graded.confidence;
         k += 1;
     }
 }
 
-// Step 4 for box i, from the Y of all boxes. A faulty box's cells stay 0.
+// Step 4 for the box in this seat, from the Y of all boxes. A faulty box's cells stay 0.
 fn step4_box(
-    hall: Hall,
+    seat: Seat,
     lists: &[u16; 13],
     table: &[u64],
     third: &[u64; 169],
-    i: usize,
     heard: &mut [u64],
     rows: &mut [u64],
     confidences: &mut [u8],
 )
-    requires { ⌜ Prepared hall (now lists) (now table) × (i < hall .n) × (length (now heard) ≡ 169) ×
-        (length (now rows) ≡ 169) × (length (now confidences) ≡ 169) ×
-        PlainHeard (hall .n) (hall .faulty) (now lists) (now third) (now heard) ⌝ }
-    ensures { λ r. ⌜ PutRows (hall .n) (hall .t) (hall .faulty) (now (lists .entry)) (now (table .entry))
-        (now (third .entry)) i (now (rows .entry)) (now (rows .exit)) ⌝ }
-    ensures { λ r. ⌜ PutConfidences (hall .n) (hall .t) (hall .faulty) (now (lists .entry)) (now (table .entry))
-        (now (third .entry)) i (now (confidences .entry)) (now (confidences .exit)) ⌝ }
-    ensures { λ r. ⌜ PlainHeard (hall .n) (hall .faulty) (now (lists .entry)) (now (third .entry))
+    requires { ⌜ Seated seat (now lists) (now table) × (length (now heard) ≡ 169) × (length (now rows) ≡ 169) ×
+        (length (now confidences) ≡ 169) × PlainHeard (seat .hall .settings) (now lists) (now third) (now heard) ⌝ }
+    ensures { λ r. ⌜ PutRows (seat .hall .settings) (now (lists .entry)) (now (table .entry)) (now (third .entry))
+        (seat .i) (now (rows .entry)) (now (rows .exit)) ⌝ }
+    ensures { λ r. ⌜ PutConfidences (seat .hall .settings) (now (lists .entry)) (now (table .entry))
+        (now (third .entry)) (seat .i) (now (confidences .entry)) (now (confidences .exit)) ⌝ }
+    ensures { λ r. ⌜ PlainHeard (seat .hall .settings) (now (lists .entry)) (now (third .entry))
         (now (heard .exit)) ⌝ }
 {
-    let n = hall.n;
-    if sizes::is_member(hall.faulty, i) {
+    let n = seat.hall.settings.n;
+    if sizes::is_member(seat.hall.settings.faulty, seat.i) {
         return;
     }
-    hear_all(n * n + n * n * n, hall, lists, table, third, i, heard);
-    put_grades(hall, third, heard, i, rows, confidences);
+    let base = n * n + n * n * n;
+    hear_all(base, seat, lists, table, third, heard);
+    put_grades(seat, third, heard, rows, confidences);
 }
 
 // Step 4: what every sound box makes of every leader, put to cells that are 0.
@@ -422,14 +455,15 @@ fn step4(
 )
     requires { ⌜ Prepared hall (now lists) (now table) × (length (now heard) ≡ 169) × (now rows ≡ replicate 169 0) ×
         (now confidences ≡ replicate 169 0) ⌝ }
-    ensures { λ r. ⌜ AllGrades (hall .n) (hall .t) (hall .faulty) (now (lists .entry)) (now (table .entry))
-        (now (third .entry)) (now (rows .exit)) (now (confidences .exit)) ⌝ }
+    ensures { λ r. ⌜ AllGrades (hall .settings) (now (lists .entry)) (now (table .entry)) (now (third .entry))
+        (now (rows .exit)) (now (confidences .exit)) ⌝ }
 {
-    let n = hall.n;
+    let n = hall.settings.n;
     hear_plain(n, third, heard);
     let mut i: usize = 0;
     while i < n {
-        step4_box(hall, lists, table, third, i, heard, rows, confidences);
+        let seat = Seat { hall, i };
+        step4_box(seat, lists, table, third, heard, rows, confidences);
         i += 1;
     }
 }
@@ -443,7 +477,7 @@ fn one_if_sent(row: u64) -> usize
 
 // How many of the cells hold a row.
 fn sent_in(cells: &[u64]) -> usize
-    ensures { λ r. ⌜ (r ≡ count (length (now (cells .entry))) (λ k. not (eqb (getD (now (cells .entry)) k 0) 0))) × (r ≤ length (now (cells .entry))) ⌝ }
+    ensures { λ r. ⌜ (r ≡ filled (now (cells .entry))) × (r ≤ length (now (cells .entry))) ⌝ }
 {
     let mut sent: usize = 0;
     let mut p: usize = 0;
@@ -467,7 +501,7 @@ fn one_if_first(faulty: u16, j: usize, row: u64) -> usize
 // How many sound boxes send a row in step 1.
 fn sent_in_step1(n: usize, faulty: u16, rows: &[u64; 13]) -> usize
     requires { ⌜ n ≤ 13 ⌝ }
-    ensures { λ r. ⌜ (r ≡ count n (λ j. sound faulty j && not (eqb (getD (now (rows .entry)) j 0) 0))) × (r ≤ n) ⌝ }
+    ensures { λ r. ⌜ (r ≡ count n (sendsFirst faulty (now (rows .entry)))) × (r ≤ n) ⌝ }
 {
     let mut sent: usize = 0;
     let mut j: usize = 0;
@@ -478,43 +512,38 @@ fn sent_in_step1(n: usize, faulty: u16, rows: &[u64; 13]) -> usize
     sent
 }
 
-// The messages of steps 1 to 3, from the rows and from what the sound boxes send in steps 2 and 3: each goes to n boxes.
-fn messages_of(n: usize, faulty: u16, rows: &[u64; 13], second: &[u64], third: &[u64]) -> u64
-    requires { ⌜ (n ≤ 13) × (length (now second) ≡ 169) × (length (now third) ≡ 169) ⌝ }
-    ensures { λ r. ⌜ AllSent n faulty (now (rows .entry)) (now (second .entry)) (now (third .entry)) r ⌝ }
+// The messages of steps 1 to 3, from the rows and what the sound boxes send in steps 2 and 3: each goes to n boxes.
+fn messages_of(settings: Settings, rows: &[u64; 13], second: &[u64], third: &[u64]) -> u64
+    requires { ⌜ (settings .n ≤ 13) × (length (now second) ≡ 169) × (length (now third) ≡ 169) ⌝ }
+    ensures { λ r. ⌜ AllSent settings (now (rows .entry)) (now (second .entry)) (now (third .entry)) r ⌝ }
 {
+    let n = settings.n;
     let size = n * n;
-    let boxes = sent_in_step1(n, faulty, rows) + sent_in(&second[..size]) + sent_in(&third[..size]);
+    let boxes = sent_in_step1(n, settings.faulty, rows)
+        + sent_in(&second[..size])
+        + sent_in(&third[..size]);
     (n * boxes) as u64
 }
 
 // Steps 1 to 4 for every box, where they are not refused.
-fn all_steps(
-    n: usize,
-    t: u8,
-    faulty: u16,
-    rows: &[u64; 13],
-    lists: &[u16; 13],
-    table: &[u64],
-) -> Cast
-    requires { ⌜ Ready n (now table) × (3 * t < n) ⌝ }
-    ensures { λ r. ⌜ r ≡ castOf n t faulty (now (rows .entry)) (now (lists .entry)) (now (table .entry)) ⌝ }
+fn all_steps(settings: Settings, rows: &[u64; 13], lists: &[u16; 13], table: &[u64]) -> Cast
+    requires { ⌜ Ready (settings .n) (now table) × RightSize settings ⌝ }
+    ensures { λ r. ⌜ r ≡ castOf (settings .n) (settings .t) (settings .faulty)
+        (now (rows .entry)) (now (lists .entry)) (now (table .entry)) ⌝ }
 {
-    let odd = odd_boxes(faulty, lists);
-    let asked = asked_leaders(n, t, faulty, odd);
+    let odd = odd_boxes(settings.faulty, lists);
+    let asked = asked_leaders(settings, odd);
     let hall = Hall {
-        n,
-        t,
-        faulty,
+        settings,
         odd,
         asked,
     };
     let mut second = [0u64; 169];
-    step1(n, faulty, rows, lists, table, &mut second);
+    step1(settings, rows, lists, table, &mut second);
     let mut heard = [0u64; 169];
     let mut third = [0u64; 169];
     step3(hall, lists, table, &second, &mut heard, &mut third);
-    let sent = messages_of(n, faulty, rows, &second, &third);
+    let sent = messages_of(settings, rows, &second, &third);
     let mut held = [0u64; 169];
     let mut sure = [0u8; 169];
     step4(hall, lists, table, &third, &mut heard, &mut held, &mut sure);
@@ -540,18 +569,13 @@ fn steps_refusal(n: usize, t: u8, table: &[u64]) -> u8
     0
 }
 
-// Steps 1 to 4 for every box, from the rows and lists as they stand and the table of what the faulty boxes send. Refusals 4, 5, 11.
-pub fn steps(
-    n: usize,
-    t: u8,
-    faulty: u16,
-    rows: &[u64; 13],
-    lists: &[u16; 13],
-    table: &[u64],
-) -> Cast
-    ensures { λ r. ⌜ r ≡ castReply n t faulty (now (rows .entry)) (now (lists .entry)) (now (table .entry)) ⌝ }
+// Steps 1 to 4 for every box, from the rows and lists as they stand and the table of what the faulty boxes send.
+// Refusals 4, 5, 11.
+pub fn steps(settings: Settings, rows: &[u64; 13], lists: &[u16; 13], table: &[u64]) -> Cast
+    ensures { λ r. ⌜ r ≡ castReply (settings .n) (settings .t) (settings .faulty)
+        (now (rows .entry)) (now (lists .entry)) (now (table .entry)) ⌝ }
 {
-    let refusal = steps_refusal(n, t, table);
+    let refusal = steps_refusal(settings.n, settings.t, table);
     if refusal != 0 {
         return Cast {
             refusal,
@@ -560,5 +584,5 @@ pub fn steps(
             confidences: [0; 169],
         };
     }
-    all_steps(n, t, faulty, rows, lists, table)
+    all_steps(settings, rows, lists, table)
 }

@@ -234,7 +234,8 @@ fn iterate_refusal(s: Run, table: &[u64]) -> u8
 // Step 5, the new row of a sound box i: the row held by the most leaders with confidence 1 or 2, else the old row.
 fn new_row(s: Run, rows: &[u64], confidences: &[u8], i: usize) -> u64
     requires { ⌜ AllCells s (now rows) (now confidences) × Working s i ⌝ }
-    ensures { λ r. ⌜ ((table : List ℕ) → GradesOf s table (now (rows .entry)) (now (confidences .entry)) → r ≡ newRow s table i) ⌝ }
+    ensures { λ r. ⌜ ((table : List ℕ) → GradesOf s table (now (rows .entry)) (now (confidences .entry)) →
+        r ≡ newRow s table i) ⌝ }
 {
     let n = s.n as usize;
     let from = i * n;
@@ -285,7 +286,8 @@ fn new_list(s: Run, confidences: &[u8], i: usize) -> u16
 // The row of place i after the iteration: the new row of a sound box, and 0 in a faulty or unused place.
 fn row_at(s: Run, rows: &[u64], confidences: &[u8], i: usize) -> u64
     requires { ⌜ AllCells s (now rows) (now confidences) × (i < 13) ⌝ }
-    ensures { λ r. ⌜ ((table : List ℕ) → GradesOf s table (now (rows .entry)) (now (confidences .entry)) → r ≡ entry (s .n) (s .faulty) (newRow s table) i) ⌝ }
+    ensures { λ r. ⌜ ((table : List ℕ) → GradesOf s table (now (rows .entry)) (now (confidences .entry)) →
+        r ≡ entry (s .n) (s .faulty) (newRow s table) i) ⌝ }
 {
     if is_sound_box(s.n, s.faulty, i) {
         return new_row(s, rows, confidences, i);
@@ -307,7 +309,8 @@ fn list_at(s: Run, confidences: &[u8], i: usize) -> u16
 // Step 5: the thirteen rows after the iteration.
 fn step5_rows<'a>(s: Run, rows: &'a [u64], confidences: &'a [u8]) -> [u64; 13]
     requires { ⌜ AllCells s (now rows) (now confidences) ⌝ }
-    ensures { λ r. ⌜ ((table : List ℕ) → GradesOf s table (now (rows .entry)) (now (confidences .entry)) → r ≡ build 13 (entry (s .n) (s .faulty) (newRow s table))) ⌝ }
+    ensures { λ r. ⌜ ((table : List ℕ) → GradesOf s table (now (rows .entry)) (now (confidences .entry)) →
+        r ≡ build 13 (entry (s .n) (s .faulty) (newRow s table))) ⌝ }
 {
     let mut out = [0u64; 13];
     let mut i: usize = 0;
@@ -345,15 +348,23 @@ impl Run {
         // The tests above leave steps 1 to 4 nothing to refuse.
         let rows = self.rows;
         let lists = self.lists;
-        let cast = gradecast::steps(self.n as usize, self.t, self.faulty, &rows, &lists, table);
+        let n = self.n as usize;
+        let settings = gradecast::Settings {
+            n,
+            t: self.t,
+            faulty: self.faulty,
+        };
+        let cast = gradecast::steps(settings, &rows, &lists, table);
         let held = step5_rows(self, &cast.rows, &cast.confidences);
         let listed = step5_lists(self, &cast.confidences);
+        let done = self.done + 1;
+        let sent = self.sent + cast.sent;
         let run = Run {
             n: self.n,
             t: self.t,
             faulty: self.faulty,
-            done: self.done + 1,
-            sent: self.sent + cast.sent,
+            done,
+            sent,
             rows: held,
             lists: listed,
         };

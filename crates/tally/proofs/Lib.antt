@@ -3,5 +3,4 @@ pub mod Laws
 pub mod Leads
 pub mod Replies
 pub mod Taken
-pub mod Unique
 pub mod Calls

@@ -25,19 +25,13 @@ counted c = c .before .before .before .before
 prepared : (c : tie.After-asked-leaders) →
     let a = c .before .before .before .args in
     Prepared
-    (record {
-      n = a .n;
-      t = a .t;
-      faulty = a .faulty;
-      odd = c .before .odd-boxes .result;
-      asked = c .asked-leaders .result;
-    })
+    (record { settings = a .settings; odd = c .before .odd-boxes .result; asked = c .asked-leaders .result })
     (a .lists .now)
     (a .table .now)
 prepared c =
     let p = c .before .before .before .pre in
     let odd = c .before .odd-boxes .ensures in
-    record { ready = p .0; tolerated = p .1; odd-set = odd; enough = c .asked-leaders .ensures _ odd }
+    record { ready = p .0; size = p .1; odd-set = odd; enough = c .asked-leaders .ensures _ odd }
 
 odd-boxes-requires : tie.Need-odd-boxes-requires
 odd-boxes-requires c κs = search needs
@@ -90,7 +84,7 @@ returns c =
     let voted = step3-done (sent .before) in
     let second = step1-done (voted .before) .step1 .ensures in
     let third = voted .step3 .ensures _ second in
-    cast-is _ _ _ _ _ _ _ refl (sent .messages-of .ensures _ _ _ second third) (graded .step4 .ensures _ third)
+    cast-is _ _ _ _ _ _ _ refl (sent .messages-of .ensures _ _ second third) (graded .step4 .ensures _ third)
 
 pub all-steps-spec : {M : Type 1} → statement M
 all-steps-spec =

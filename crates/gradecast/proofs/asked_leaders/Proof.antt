@@ -6,21 +6,34 @@ use borrow.Author.Needs.{needs}
 use Rattle.gradecast.proofs.asked_leaders.Statement.{statement}
 use Rattle.gradecast.proofs.asked_leaders.Tie as tie
 
+-- the entry, from where the faulty boxes are counted
+abbrev start : tie.After-faulty-boxes → tie.Start
+start c = c .before .before
+
+cast-most : tie.Need-cast-most
+cast-most c = let p = c .before .pre in omega (arith, p .tolerated, p .high)
+
 faulty-boxes-requires : tie.Need-faulty-boxes-requires
 faulty-boxes-requires c κs = search needs
 
 returns : tie.Need-returns
-returns c = all-asked _ _ _ _ (c .before .before .pre .0)
+returns c = all-asked _ _ (start (c .before) .pre .high)
 
 returns-2 : tie.Need-returns-2
 returns-2 c =
-    let counted = c .before .before in
-    let p = counted .before .pre in
-    let found = counted .faulty-boxes .ensures in
-    faulty-asked _ _ _ _ (p .0) (p .1) (omega (arith, found, c .before .if1 .left)) (c .if2 .taken)
+    let few = c .before .before in
+    let found = few .before in
+    faulty-asked _ _ (start found .pre) (omega (arith, found .faulty-boxes .ensures, few .if1 .left)) (c .if2 .taken)
 
 returns-3 : tie.Need-returns-3
-returns-3 c = all-asked _ _ _ _ (c .before .before .before .pre .0)
+returns-3 c = all-asked _ _ (start (c .before .before .before) .pre .high)
 
 pub asked-leaders-spec : {M : Type 1} → statement M
-asked-leaders-spec = tie.close (tie.spec faulty-boxes-requires returns returns-2 returns-3)
+asked-leaders-spec =
+    tie.close
+    (tie.spec
+    cast-most
+    faulty-boxes-requires
+    returns
+    returns-2
+    returns-3)

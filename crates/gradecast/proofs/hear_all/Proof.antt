@@ -14,39 +14,44 @@ use Rattle.gradecast.proofs.hear_all.Statement.{statement}
 use Rattle.gradecast.proofs.hear_all.Tie as tie
 
 abbrev Inv-loop : tie.InvT-loop
-Inv-loop base hall lists table said i heard₀ n j₀ heard j =
-    (j ≤ hall .n) ×
+Inv-loop base seat lists table said heard₀ n i list j₀ heard j =
+    (j ≤ seat .hall .settings .n) ×
     (length heard ≡ length heard₀) ×
-    SendersTo (hall .n) j (heardFrom base (hall .n) (getD lists i 0) (hall .faulty) table said i) heard ×
-    PlainHeard (hall .n) (hall .faulty) lists said heard
+    SendersTo (seat .hall .settings .n) j
+    (heardFrom base (seat .hall .settings) (getD lists (seat .i) 0) table said (seat .i)) heard ×
+    PlainHeard (seat .hall .settings) lists said heard
 
 abbrev μ-loop : tie.MeasureT-loop
-μ-loop base hall lists table said i heard₀ n j₀ heard j = hall .n - j
+μ-loop base seat lists table said heard₀ n i list j₀ heard j = seat .hall .settings .n - j
+
+-- the entry, from the loop
+abbrev entry : tie.At-loop Inv-loop μ-loop → tie.Start Inv-loop μ-loop
+entry c = c .before .before .before .before
 
 -- the entry, from a turn
 abbrev start : tie.In-loop Inv-loop μ-loop → tie.Start Inv-loop μ-loop
-start c = c .before .before .before .before
+start c = entry (c .before)
+
+mul-list : tie.Need-mul-list Inv-loop μ-loop
+mul-list c = let p = c .before .before .pre in omega (arith, p .0 .below, p .0 .prepared .size .high)
+
+element-copy-out-list : tie.Need-element-copy-out-list Inv-loop μ-loop
+element-copy-out-list c = let p = c .before .before .pre in omega (arith, p .0 .below, p .0 .prepared .size .high)
 
 loop-holds : tie.Need-loop-holds Inv-loop μ-loop
-loop-holds c = (search needs, search needs, λ k j hk l. absurd (omega arith), c .before .before .pre .4)
+loop-holds c = (search needs, search needs, λ k j hk l. absurd (omega arith), c .before .before .before .pre .3)
 
 is-member-requires : tie.Need-is-member-requires Inv-loop μ-loop
 is-member-requires c κs = search needs
 
-mul-hear-from : tie.Need-mul-hear-from Inv-loop μ-loop
-mul-hear-from c = search needs
-
-element-copy-out-hear-from : tie.Need-element-copy-out-hear-from Inv-loop μ-loop
-element-copy-out-hear-from c = let p = start (c .before .before) .pre in omega (arith, p .1, p .0 .ready .high)
-
 hear-from-requires : tie.Need-hear-from-requires Inv-loop μ-loop
 hear-from-requires c κs =
-    let turn = c .before .before .before .before in
+    let turn = c .before .before .before in
     let p = start turn .pre in (
-      p .0 .ready,
-      record { is-box = p .1; is-leader = turn .loop-test .taken },
-      p .2,
-      turn .before .loop .inv .1 ∙ p .3,
+      p .0 .prepared .ready,
+      record { is-box = p .0 .below; is-leader = turn .loop-test .taken },
+      p .1,
+      turn .before .loop .inv .1 ∙ p .2,
     )
 
 add-j : tie.Need-add-j Inv-loop μ-loop
@@ -58,32 +63,34 @@ loop-less c = search needs
 -- what the test says
 is-odd : (c : tie.After-is-member Inv-loop μ-loop) →
     let a = start (c .before) .args in
-    oddTo 13 (a .hall .faulty) (a .lists .now) (c .before .before .loop .j) ≡ c .is-member .result
+    oddTo 13 (a .seat .hall .settings .faulty) (a .lists .now) (c .before .before .loop .j) ≡ c .is-member .result
 is-odd c =
-    sym (start (c .before) .pre .0 .odd-set (c .before .before .loop .j)) ∙ sym (c .is-member .ensures)
+    let odd-set = start (c .before) .pre .0 .prepared .odd-set in
+    sym (odd-set (c .before .before .loop .j)) ∙ sym (c .is-member .ensures)
 
 loop-again : tie.Need-loop-again Inv-loop μ-loop
 loop-again c =
     let turn = c .before .before in
     let a = start turn .args in
     let p = start turn .pre in
+    let s = a .seat .hall .settings in
     let so-far = turn .before .loop in
     let below = turn .loop-test .taken in
     ⊎-elim
     (λ w.
-    rw (w .6) (
+    rw (w .5) (
       search needs,
       search needs,
-      senders-turn _ below (so-far .inv .2) (w .3 .ensures),
-      plain-stays (a .hall .n) (a .hall .faulty) (a .lists .now) (a .said .now) (so-far .j) _ _ _
-          (is-odd (c .before) ∙ w .0 .taken) (w .3 .ensures) (so-far .inv .3),
+      senders-turn _ below (so-far .inv .2) (w .2 .ensures),
+      plain-stays s (a .lists .now) (a .said .now) (so-far .j) _ _ _ (is-odd (c .before) ∙ w .0 .taken) (w .2 .ensures)
+          (so-far .inv .3),
     ))
     (λ w.
     rw (w .1) (
       search needs,
       search needs,
-      plain-turn (a .hall .n) (a .hall .faulty) (a .lists .now) (a .said .now) (a .base) (a .table .now) (a .i)
-          (omega (arith, p .1, p .0 .ready .high))
+      plain-turn s (a .lists .now) (a .said .now) (a .base) (a .table .now) (a .seat .i)
+          (omega (arith, p .0 .below, p .0 .prepared .size .high))
           (so-far .j) (so-far .heard) below (is-odd (c .before) ∙ w .0 .left) (so-far .inv .3) (so-far .inv .2),
       so-far .inv .3,
     ))
@@ -101,10 +108,10 @@ hear-all-spec =
     (tie.spec
     Inv-loop
     μ-loop
+    mul-list
+    element-copy-out-list
     loop-holds
     is-member-requires
-    mul-hear-from
-    element-copy-out-hear-from
     hear-from-requires
     add-j
     loop-less

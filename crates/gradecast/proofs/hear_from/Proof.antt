@@ -1,42 +1,49 @@
 -- `gradecast::hear_from` meets its contract: after k turns what the box hears from j about the leaders below k is put
 -- down, and the other senders' rows stand as they did. What is left of n falls. Assumes nothing.
-use mathlib.Core.Path.{_≡_, ap, _∙_}
-use Prim.Native.Nat.{ℕ, _+_, _*_, _-_, _≤_, _<_}
+use mathlib.Core.Path.{ap, _∙_}
+use Prim.Native.Nat.{ℕ, _+_, _*_, _-_, _<_}
 use native.Mathlib.Omega.{arith}
-use lib.ListN.{length, getD}
+use lib.ListN.{getD}
 use Rattle.sizes.proofs.Laws.{table-le}
 use Rattle.gradecast.specs.Steps.{hears, sends}
-use Rattle.gradecast.specs.Inside.{heardFrom, FromSender}
-use Rattle.gradecast.proofs.Columns.{sender-none, sender-turn, sender-whole}
+use Rattle.gradecast.specs.Inside.{heardFrom}
 use Rattle.gradecast.proofs.Cells.{place-fits}
+use Rattle.gradecast.proofs.Columns.{Hearing, sender-begins, sender-turn, sender-fits, sender-ends}
 use borrow.Author.Needs.{needs}
 use Rattle.gradecast.proofs.hear_from.Statement.{statement}
 use Rattle.gradecast.proofs.hear_from.Tie as tie
 
 abbrev Inv-loop : tie.InvT-loop
-Inv-loop base n list faulty table said i j heard₀ k₀ heard k =
-    (k ≤ n) ×
-    (length heard ≡ length heard₀) ×
-    FromSender n j k (λ m. heardFrom base n list faulty table said i m j) heard₀ heard
+Inv-loop base list table said j heard₀ settings n i k₀ heard k =
+    Hearing (settings .n) j (λ m. heardFrom base settings list table said i m j) heard₀ k heard
 
 abbrev μ-loop : tie.MeasureT-loop
-μ-loop base n list faulty table said i j heard₀ k₀ heard k = n - k
+μ-loop base list table said j heard₀ settings n i k₀ heard k = settings .n - k
+
+-- the entry, from the loop
+abbrev entry : tie.At-loop Inv-loop μ-loop → tie.Start Inv-loop μ-loop
+entry c = c .before .before .before .before
 
 -- the entry, from a turn
 abbrev start : tie.In-loop Inv-loop μ-loop → tie.Start Inv-loop μ-loop
-start c = c .before .before .before .before
+start c = entry (c .before)
+
+-- the turn, from where the box has heard
+abbrev turn : tie.After-hear Inv-loop μ-loop → tie.In-loop Inv-loop μ-loop
+turn c = c .before .before .before
 
 -- the cell that is read and the cell that is put are among the 169
 within : (c : tie.In-loop Inv-loop μ-loop) →
     let a = start c .args in
-    (a .j * a .n + c .before .loop .k < 169) × (c .before .loop .k * a .n + a .j < 169)
+    let n = a .seat .hall .settings .n in
+    (a .j * n + c .before .loop .k < 169) × (c .before .loop .k * n + a .j < 169)
 within c =
     let p = start c .pre in
     let is-leader = c .loop-test .taken in
     (place-fits (p .0 .high) (p .1 .is-leader) is-leader, place-fits (p .0 .high) is-leader (p .1 .is-leader))
 
 loop-holds : tie.Need-loop-holds Inv-loop μ-loop
-loop-holds c = (search needs, search needs, sender-none _)
+loop-holds c = sender-begins _ _ _ _
 
 place-from-requires : tie.Need-place-from-requires Inv-loop μ-loop
 place-from-requires c κs =
@@ -63,18 +70,18 @@ hear-requires : tie.Need-hear-requires Inv-loop μ-loop
 hear-requires c κs = search needs
 
 mul-heard : tie.Need-mul-heard Inv-loop μ-loop
-mul-heard c = omega (arith, within (c .before .before .before) .1)
+mul-heard c = omega (arith, within (turn c) .1)
 
 add-heard : tie.Need-add-heard Inv-loop μ-loop
-add-heard c = omega (arith, within (c .before .before .before) .1)
+add-heard c = omega (arith, within (turn c) .1)
 
 mul-heard-2 : tie.Need-mul-heard-2 Inv-loop μ-loop
-mul-heard-2 c = omega (arith, within (c .before .before .before) .1)
+mul-heard-2 c = omega (arith, within (turn c) .1)
 
 slice-write-heard : tie.Need-slice-write-heard Inv-loop μ-loop
 slice-write-heard c =
-    let turn = c .before .before .before in
-    omega (arith, within turn .1, start turn .pre .3, turn .before .loop .inv .1)
+    let p = start (turn c) .pre in
+    sender-fits (p .0 .high) (p .1 .is-leader) _ (p .3) (turn c .before .loop .inv) (turn c .loop-test .taken)
 
 add-k : tie.Need-add-k Inv-loop μ-loop
 add-k c = search needs
@@ -85,22 +92,20 @@ loop-less c = search needs
 loop-again : tie.Need-loop-again Inv-loop μ-loop
 unfolding heardFrom
 loop-again c =
-    let a = start (c .before .before .before) .args in
-    let p = start (c .before .before .before) .pre in
-    let so-far = c .before .before .before .before .loop in
-    let own = getD (a .said .now) (a .j * a .n + so-far .k) 0 in
-    let row : ℕ → ℕ = λ m. hears (a .list) (a .j) (sends (a .faulty) (a .table .now) (a .j) m own) in (
-      search needs,
-      search needs,
-      sender-turn _ (so-far .k) (so-far .heard) (p .0 .high) (omega arith) (p .1 .is-leader) (so-far .inv .1 ∙ p .3)
-          (so-far .inv .2) (c .hear .ensures ∙ ap row (c .before .before .place-from .ensures .0)),
-    )
+    let a = start (turn c) .args in
+    let p = start (turn c) .pre in
+    let k = turn c .before .loop .k in
+    let s = a .seat .hall .settings in
+    let own = getD (a .said .now) (a .j * s .n + k) 0 in
+    let row : ℕ → ℕ = λ m. hears (a .list) (a .j) (sends (s .faulty) (a .table .now) (a .j) m own) in
+    sender-turn (p .0 .high) (p .1 .is-leader) _ (p .3) k _ (turn c .before .loop .inv) (turn c .loop-test .taken)
+    (c .hear .ensures ∙ ap row (c .before .before .place-from .ensures .0))
 
 same-length : tie.Need-same-length Inv-loop μ-loop
-same-length c = search needs
+same-length c = c .before .loop .inv .1
 
 returns : tie.Need-returns Inv-loop μ-loop
-returns c = sender-whole _ (omega arith) (c .before .loop .inv .2)
+returns c = sender-ends _ (c .before .loop .inv) (omega arith)
 
 pub hear-from-spec : {M : Type 1} → statement M
 hear-from-spec =

@@ -30,9 +30,9 @@ loop-less c = search needs
 
 loop-again : tie.Need-loop-again Inv-loop μ-loop
 loop-again c =
-    let so-far = c .before .before .before .before .before .loop in
-    let put = c .before .before .hear-plain-from in
-    (search needs, search needs, senders-turn _ (omega arith) (so-far .inv .2) (put .ensures))
+    let put = c .before .before in
+    let so-far = put .before .before .before .loop .inv in
+    (search needs, search needs, senders-turn _ (omega arith) (so-far .2) (put .hear-plain-from .ensures))
 
 same-length : tie.Need-same-length Inv-loop μ-loop
 same-length c = search needs

@@ -1,34 +1,36 @@
 -- `gradecast::hear_plain_from` meets its contract: after k turns what box j says about the leaders below k is put
 -- down, and the other senders' rows stand as they did. What is left of n falls. Assumes nothing.
-use mathlib.Core.Path.{_≡_, refl, _∙_}
-use Prim.Native.Nat.{_+_, _*_, _-_, _≤_, _<_}
+use mathlib.Core.Path.{refl}
+use Prim.Native.Nat.{_+_, _*_, _-_, _<_}
 use native.Mathlib.Omega.{arith}
-use lib.ListN.{length}
-use Rattle.gradecast.specs.Inside.{FromSender, saidBy}
-use Rattle.gradecast.proofs.Columns.{sender-none, sender-turn, sender-whole}
+use Rattle.gradecast.specs.Inside.{saidBy}
 use Rattle.gradecast.proofs.Cells.{place-fits}
+use Rattle.gradecast.proofs.Columns.{Hearing, sender-begins, sender-turn, sender-fits, sender-ends}
 use borrow.Author.Needs.{needs}
 use Rattle.gradecast.proofs.hear_plain_from.Statement.{statement}
 use Rattle.gradecast.proofs.hear_plain_from.Tie as tie
 
 abbrev Inv-loop : tie.InvT-loop
-Inv-loop n said j heard₀ k₀ heard k =
-    (k ≤ n) × (length heard ≡ length heard₀) × FromSender n j k (λ m. saidBy n said m j) heard₀ heard
+Inv-loop n said j heard₀ k₀ heard k = Hearing n j (λ m. saidBy n said m j) heard₀ k heard
 
 abbrev μ-loop : tie.MeasureT-loop
 μ-loop n said j heard₀ k₀ heard k = n - k
 
-loop-holds : tie.Need-loop-holds Inv-loop μ-loop
-loop-holds c = (search needs, search needs, sender-none _)
+-- the entry, from a turn
+abbrev start : tie.In-loop Inv-loop μ-loop → tie.Start Inv-loop μ-loop
+start c = c .before .before
 
 -- the cell that is read and the cell that is put are among the 169
 within : (c : tie.In-loop Inv-loop μ-loop) →
-    let a = c .before .before .args in
+    let a = start c .args in
     (a .j * a .n + c .before .loop .k < 169) × (c .before .loop .k * a .n + a .j < 169)
 within c =
-    let p = c .before .before .pre in
+    let p = start c .pre in
     let is-leader = c .loop-test .taken in
     (place-fits (p .0) (p .1) is-leader, place-fits (p .0) is-leader (p .1))
+
+loop-holds : tie.Need-loop-holds Inv-loop μ-loop
+loop-holds c = sender-begins _ _ _ _
 
 mul-heard : tie.Need-mul-heard Inv-loop μ-loop
 mul-heard c = omega (arith, within c .0)
@@ -53,7 +55,9 @@ mul-heard-4 c = omega (arith, within (c .before) .1)
 
 slice-write-heard : tie.Need-slice-write-heard Inv-loop μ-loop
 slice-write-heard c =
-    omega (arith, within (c .before) .1, c .before .before .loop .inv .1, c .before .before .before .pre .2)
+    let turn = c .before in
+    let p = start turn .pre in
+    sender-fits (p .0) (p .1) _ (p .2) (turn .before .loop .inv) (turn .loop-test .taken)
 
 add-k : tie.Need-add-k Inv-loop μ-loop
 add-k c = search needs
@@ -63,19 +67,15 @@ loop-less c = search needs
 
 loop-again : tie.Need-loop-again Inv-loop μ-loop
 loop-again c =
-    let p = c .before .before .before .pre in
-    let so-far = c .before .before .loop in (
-      search needs,
-      search needs,
-      sender-turn _ (so-far .k) (so-far .heard) (p .0) (omega arith) (p .1) (so-far .inv .1 ∙ p .2) (so-far .inv .2)
-          refl,
-    )
+    let turn = c .before in
+    let p = start turn .pre in
+    sender-turn (p .0) (p .1) _ (p .2) _ _ (turn .before .loop .inv) (turn .loop-test .taken) refl
 
 same-length : tie.Need-same-length Inv-loop μ-loop
-same-length c = search needs
+same-length c = c .before .loop .inv .1
 
 returns : tie.Need-returns Inv-loop μ-loop
-returns c = sender-whole _ (omega arith) (c .before .loop .inv .2)
+returns c = sender-ends _ (c .before .loop .inv) (omega arith)
 
 pub hear-plain-from-spec : {M : Type 1} → statement M
 hear-plain-from-spec =

@@ -1,5 +1,5 @@
--- `gradecast::messages_of` meets its contract: the rows, the cells of step 2 and the cells of step 3 that are not 0, n times, are the
--- messages. Assumes nothing.
+-- `gradecast::messages_of` meets its contract: the rows, the cells of step 2 and the cells of step 3 that are not 0, n
+-- times, are the messages. Assumes nothing.
 use mathlib.Core.Path.{sym, ap, ap₂, _∙_}
 use Prim.Native.Nat.{ℕ, _+_, _*_, _≤_}
 use native.Mathlib.Nat.{mul-le-mul-right}
@@ -10,13 +10,35 @@ use borrow.Author.Needs.{needs}
 use Rattle.gradecast.proofs.messages_of.Statement.{statement}
 use Rattle.gradecast.proofs.messages_of.Tie as tie
 
+-- the entry, from where the rows of step 1 are counted
+abbrev start : tie.After-sent-in-step1 → tie.Start
+start c = c .before .before .before
+
+-- and from where the cells of step 2 are
+abbrev first : tie.After-sent-in → tie.After-sent-in-step1
+first c = c .before .before
+
+abbrev second : tie.After-sent-in2 → tie.After-sent-in
+second c = c .before .before
+
+-- all that is counted
+abbrev boxes : tie.After-sent-in2 → ℕ
+boxes c = first (second c) .sent-in-step1 .result + second c .sent-in .result + c .sent-in2 .result
+
 -- each count is small, so that nothing overflows
-all-small : (c : tie.After-sent-in2) → c .before .before .before .before .sent-in-step1 .result + c .before .before .sent-in .result + c .sent-in2 .result ≤ 351
+first-small : (c : tie.After-sent-in) → first c .sent-in-step1 .result + c .sent-in .result ≤ 182
+first-small c =
+    let s = start (first c) in
+    let p = s .pre in
+    let size = length-filled (s .args .second .now) (p .0) (p .1) in
+    omega (arith, square-le (p .0), p .0, first c .sent-in-step1 .ensures .1, c .sent-in .ensures .1, size)
+
+all-small : (c : tie.After-sent-in2) → boxes c ≤ 351
 all-small c =
-    let a = c .before .before .before .before .before .before .before .args in
-    let p = c .before .before .before .before .before .before .before .pre in
-    omega
-    (arith, square-le (p .0), p .0, c .before .before .before .before .sent-in-step1 .ensures .1, c .before .before .sent-in .ensures .1, c .sent-in2 .ensures .1, length-filled (a .second .now) (p .0) (p .1), length-filled (a .third .now) (p .0) (p .2))
+    let s = start (first (second c)) in
+    let p = s .pre in
+    let size = length-filled (s .args .third .now) (p .0) (p .2) in
+    omega (arith, square-le (p .0), first-small (second c), c .sent-in2 .ensures .1, size)
 
 mul-size : tie.Need-mul-size
 mul-size c = omega (arith, square-le (c .before .before .pre .0))
@@ -25,16 +47,16 @@ sent-in-step1-requires : tie.Need-sent-in-step1-requires
 sent-in-step1-requires c κs = search needs
 
 slice-aggregate-sent-in : tie.Need-slice-aggregate-sent-in
-slice-aggregate-sent-in c = sym (length-filled _ (c .before .before .before .before .pre .0) (c .before .before .before .before .pre .1))
+slice-aggregate-sent-in c = let p = start (c .before) .pre in sym (length-filled _ (p .0) (p .1))
 
 sent-in-requires : tie.Need-sent-in-requires
 sent-in-requires c κs = search needs
 
 add-boxes : tie.Need-add-boxes
-add-boxes c = omega (arith, square-le (c .before .before .before .before .before .pre .0), c .before .before .before .before .before .pre .0, c .before .before .sent-in-step1 .ensures .1, c .sent-in .ensures .1, length-filled (c .before .before .before .before .before .args .second .now) (c .before .before .before .before .before .pre .0) (c .before .before .before .before .before .pre .1))
+add-boxes c = omega (arith, first-small c)
 
 slice-aggregate-sent-in-2 : tie.Need-slice-aggregate-sent-in-2
-slice-aggregate-sent-in-2 c = sym (length-filled _ (c .before .before .before .before .before .before .pre .0) (c .before .before .before .before .before .before .pre .2))
+slice-aggregate-sent-in-2 c = let p = start (first (c .before)) .pre in sym (length-filled _ (p .0) (p .2))
 
 sent-in-requires-2 : tie.Need-sent-in-requires-2
 sent-in-requires-2 c κs = search needs
@@ -43,15 +65,17 @@ add-boxes-2 : tie.Need-add-boxes-2
 add-boxes-2 c = omega (arith, all-small c)
 
 mul-result : tie.Need-mul-result
-mul-result c = omega (arith, mul-le-mul-right (c .before .before .before .before .sent-in-step1 .result + c .before .before .sent-in .result + c .sent-in2 .result) (c .before .before .before .before .before .before .before .pre .0), all-small c)
+mul-result c =
+    let high = start (first (second c)) .pre .0 in
+    omega (arith, mul-le-mul-right (boxes c) high, all-small c)
 
 returns : tie.Need-returns
 returns c =
-    λ t lists table e₂ e₃.
-    let a = c .before .before .before .before .before .before .before .args in
-    ap (λ (m : ℕ). a .n * m)
-    (ap₂ _+_ (ap₂ _+_ (c .before .before .before .before .sent-in-step1 .ensures .0) (c .before .before .sent-in .ensures .0)) (c .sent-in2 .ensures .0))
-    ∙ messages-counted (a .n) t (a .faulty) (a .rows .now) lists table _ _ e₂ e₃
+    λ lists table e₂ e₃.
+    let a = start (first (second c)) .args in
+    let two = ap₂ _+_ (first (second c) .sent-in-step1 .ensures .0) (second c .sent-in .ensures .0) in
+    ap (λ (m : ℕ). a .settings .n * m) (ap₂ _+_ two (c .sent-in2 .ensures .0))
+    ∙ messages-counted (a .settings) (a .rows .now) lists table _ _ e₂ e₃
 
 pub messages-of-spec : {M : Type 1} → statement M
 messages-of-spec =

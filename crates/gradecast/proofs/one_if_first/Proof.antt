@@ -1,4 +1,5 @@
--- `gradecast::one_if_first` meets its contract: a faulty box sends nothing that counts, and a sound one its row. Assumes nothing.
+-- `gradecast::one_if_first` meets its contract: a faulty box sends nothing that counts, and a sound one its row.
+-- Assumes nothing.
 use mathlib.Core.Path.{refl, sym, _∙_}
 use Rattle.sizes.specs.Sizes.{sound}
 use borrow.Author.Needs.{needs}

@@ -1,68 +1,63 @@
 -- `gradecast::put_grades` meets its contract: after k turns the grades of the leaders below k are put, their rows and
 -- their confidences. What is left of n falls. Assumes nothing.
-use mathlib.Core.Path.{_≡_}
-use Prim.Native.Nat.{_+_, _*_, _-_, _<_, _≤_}
+use Prim.Native.Nat.{_+_, _*_, _-_, _<_}
 use native.Mathlib.Omega.{arith}
-use lib.ListN.{length}
-use Rattle.tally.specs.Tally.{confidenceOf, gradedRow}
-use Rattle.gradecast.specs.Inside.{saidBy, onLeader, plainConfidence, PutTo}
-use Rattle.gradecast.proofs.Cells.{place-fits, put-none, put-turn, put-whole}
+use Rattle.gradecast.specs.Inside.{rowBy, confidenceBy}
+use Rattle.gradecast.proofs.Cells.{place-fits, Putting, put-begins, put-turn, put-fits, put-ends}
 use borrow.Author.Needs.{needs}
 use Rattle.gradecast.proofs.put_grades.Statement.{statement}
 use Rattle.gradecast.proofs.put_grades.Tie as tie
 
 abbrev Inv-loop : tie.InvT-loop
-Inv-loop hall said heard i rows₀ confidences₀ n k₀ rows confidences k =
-    (k ≤ hall .n) ×
-    (length rows ≡ length rows₀) ×
-    (length confidences ≡ length confidences₀) ×
-    PutTo (hall .n) i k (λ m. onLeader hall gradedRow (saidBy (hall .n) said m i) heard m) rows₀ rows ×
-    PutTo (hall .n) i k (λ m. onLeader hall confidenceOf (plainConfidence (saidBy (hall .n) said m i)) heard m)
-    confidences₀ confidences
+Inv-loop seat said heard rows₀ confidences₀ n i k₀ rows confidences k =
+    Putting (seat .hall .settings .n) (seat .i) (rowBy seat said heard) rows₀ k rows ×
+    Putting (seat .hall .settings .n) (seat .i) (confidenceBy seat said heard) confidences₀ k confidences
 
 abbrev μ-loop : tie.MeasureT-loop
-μ-loop hall said heard i rows₀ confidences₀ n k₀ rows confidences k = hall .n - k
+μ-loop seat said heard rows₀ confidences₀ n i k₀ rows confidences k = seat .hall .settings .n - k
 
--- the entry, from a turn
-abbrev start : tie.In-loop Inv-loop μ-loop → tie.Start Inv-loop μ-loop
-start c = c .before .before .before .before .before
+-- the entry, from the loop
+abbrev entry : tie.At-loop Inv-loop μ-loop → tie.Start Inv-loop μ-loop
+entry c = c .before .before .before .before
 
 -- the place of leader k lies within the cells
-fits : (c : tie.In-loop Inv-loop μ-loop) → let a = start c .args in a .i * a .hall .n + c .before .loop .k < 169
-fits c = let p = start c .pre in place-fits (p .0 .high) (p .1) (c .loop-test .taken)
+within : (c : tie.In-loop Inv-loop μ-loop) →
+    let seat = entry (c .before) .args .seat in
+    seat .i * seat .hall .settings .n + c .before .loop .k < 169
+within c = let p = entry (c .before) .pre in place-fits (p .0 .high) (p .1) (c .loop-test .taken)
 
 loop-holds : tie.Need-loop-holds Inv-loop μ-loop
-loop-holds c =
-    let p = c .before .before .before .pre in
-    (search needs, search needs, search needs, put-none (p .0 .high) (p .1) _, put-none (p .0 .high) (p .1) _)
+loop-holds c = (put-begins _ _ _ _, put-begins _ _ _ _)
 
 mul-place : tie.Need-mul-place Inv-loop μ-loop
-mul-place c = omega (arith, fits c)
+mul-place c = omega (arith, within c)
 
 add-place : tie.Need-add-place Inv-loop μ-loop
-add-place c = omega (arith, fits c)
+add-place c = omega (arith, within c)
 
 mul-grade-on : tie.Need-mul-grade-on Inv-loop μ-loop
-mul-grade-on c = omega (arith, fits c)
+mul-grade-on c = omega (arith, within c)
 
 element-copy-out-grade-on : tie.Need-element-copy-out-grade-on Inv-loop μ-loop
-element-copy-out-grade-on c = omega (arith, fits c)
+element-copy-out-grade-on c = within c
 
 grade-on-requires : tie.Need-grade-on-requires Inv-loop μ-loop
 grade-on-requires c κs = search needs
 
 mul-rows : tie.Need-mul-rows Inv-loop μ-loop
-mul-rows c = omega (arith, fits (c .before .before))
+mul-rows c = omega (arith, within (c .before .before))
 
 slice-write-rows : tie.Need-slice-write-rows Inv-loop μ-loop
 slice-write-rows c =
     let turn = c .before .before in
-    omega (arith, fits turn, start turn .pre .3, turn .before .loop .inv .1)
+    let p = entry (turn .before) .pre in
+    put-fits (p .0 .high) (p .1) _ (p .3) (turn .before .loop .inv .0) (turn .loop-test .taken)
 
 slice-write-confidences : tie.Need-slice-write-confidences Inv-loop μ-loop
 slice-write-confidences c =
     let turn = c .before .before in
-    omega (arith, fits turn, start turn .pre .4, turn .before .loop .inv .2)
+    let p = entry (turn .before) .pre in
+    put-fits (p .0 .high) (p .1) _ (p .4) (turn .before .loop .inv .1) (turn .loop-test .taken)
 
 add-k : tie.Need-add-k Inv-loop μ-loop
 add-k c = search needs
@@ -73,27 +68,25 @@ loop-less c = search needs
 loop-again : tie.Need-loop-again Inv-loop μ-loop
 loop-again c =
     let turn = c .before .before in
-    let p = start turn .pre in
+    let p = entry (turn .before) .pre in
     let so-far = turn .before .loop .inv in
-    let below = turn .loop-test .taken in (
-      search needs,
-      search needs,
-      search needs,
-      put-turn (p .0 .high) (p .1) _ _ _ below (so-far .3) (c .grade-on .ensures .0),
-      put-turn (p .0 .high) (p .1) _ _ _ below (so-far .4) (c .grade-on .ensures .1),
+    let below = turn .loop-test .taken in
+    let graded = c .grade-on .ensures in (
+      put-turn (p .0 .high) (p .1) _ _ _ (so-far .0) below (graded .0),
+      put-turn (p .0 .high) (p .1) _ _ _ (so-far .1) below (graded .1),
     )
 
 same-length : tie.Need-same-length Inv-loop μ-loop
-same-length c = search needs
+same-length c = c .before .loop .inv .0 .1
 
 same-length-2 : tie.Need-same-length-2 Inv-loop μ-loop
-same-length-2 c = search needs
+same-length-2 c = c .before .loop .inv .1 .1
 
 returns : tie.Need-returns Inv-loop μ-loop
 returns c =
-    let p = c .before .before .before .before .before .pre in
+    let p = entry (c .before) .pre in
     let put = c .before .loop .inv in
-    (put-whole (p .0 .high) (p .1) _ (omega arith) (put .3), put-whole (p .0 .high) (p .1) _ (omega arith) (put .4))
+    (put-ends (p .0 .high) (p .1) _ (put .0) (omega arith), put-ends (p .0 .high) (p .1) _ (put .1) (omega arith))
 
 pub put-grades-spec : {M : Type 1} → statement M
 put-grades-spec =

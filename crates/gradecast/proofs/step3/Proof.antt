@@ -1,35 +1,37 @@
 -- `gradecast::step3` meets its contract: after i turns the votes of the boxes below i are put, and what every box
 -- hears alike is there, as it was put down before the first. What is left of n falls. Assumes nothing.
-use mathlib.Core.Path.{_≡_, ap, _∙_}
-use mathlib.Core.List.{List}
-use Prim.Native.Nat.{ℕ, _*_, _-_, _≤_}
+use mathlib.Core.Path.{_≡_, _∙_}
+use Prim.Native.Nat.{_-_, _≤_}
 use native.Mathlib.Omega.{arith}
 use lib.ListN.{length}
-use Rattle.gradecast.specs.Steps.{voted}
-use Rattle.gradecast.specs.Cast.{ofSound, cellsTo}
-use Rattle.gradecast.specs.Inside.{PlainHeard, SaidSecond}
-use Rattle.gradecast.proofs.Cells.{cells-none, box-turn, box-whole}
+use Rattle.gradecast.specs.Inside.{PlainHeard, SaidSecond, votesOfSound}
+use Rattle.gradecast.proofs.Cells.{BoxesTo, boxes-begin, boxes-turn, boxes-end}
 use borrow.Author.Needs.{needs}
 use Rattle.gradecast.proofs.step3.Statement.{statement}
 use Rattle.gradecast.proofs.step3.Tie as tie
 
 abbrev Inv-loop : tie.InvT-loop
 Inv-loop hall lists table second heard₀ out₀ n i₀ heard out i =
-    (i ≤ hall .n) ×
+    (i ≤ hall .settings .n) ×
     (length heard ≡ 169) ×
-    (length out ≡ 169) ×
-    PlainHeard (hall .n) (hall .faulty) lists second heard ×
-    ((held : List ℕ) → SaidSecond (hall .n) (hall .faulty) lists table second held →
-    out ≡
-    cellsTo (i * hall .n) (hall .n)
-    (ofSound (hall .faulty) (voted (hall .n) (hall .t) (hall .faulty) held lists table)))
+    PlainHeard (hall .settings) lists second heard ×
+    BoxesTo (hall .settings .n) (SaidSecond (hall .settings) lists table second)
+    (λ rows. votesOfSound (hall .settings) rows lists table) i out
 
 abbrev μ-loop : tie.MeasureT-loop
-μ-loop hall lists table second heard₀ out₀ n i₀ heard out i = hall .n - i
+μ-loop hall lists table second heard₀ out₀ n i₀ heard out i = hall .settings .n - i
 
 -- the entry, from the loop's beginning
 abbrev start : tie.After-slice-known3 Inv-loop μ-loop → tie.Start Inv-loop μ-loop
 start c = c .before .before .before .before .before .before .before
+
+-- the box, from a turn's end
+abbrev box : tie.After-slice-known5 Inv-loop μ-loop → tie.After-step3-box Inv-loop μ-loop
+box c = c .before .before .before .before
+
+-- the loop, from the box
+abbrev so-far : tie.After-step3-box Inv-loop μ-loop → tie.At-loop Inv-loop μ-loop
+so-far c = c .before .before .before .before
 
 hear-plain-requires : tie.Need-hear-plain-requires Inv-loop μ-loop
 hear-plain-requires c κs = search needs
@@ -40,16 +42,16 @@ loop-holds c =
     let plain = c .before .before .hear-plain in (
       search needs,
       plain .kept .1 .1 .0 ∙ p .1,
-      ap length (p .2),
       λ k j hk hj o. plain .ensures k j hk hj,
-      λ rows e. p .2 ∙ cells-none _ _,
+      boxes-begin _ _ _ (p .2),
     )
 
 step3-box-requires : tie.Need-step3-box-requires Inv-loop μ-loop
 step3-box-requires c κs =
-    let p = start (c .before .before .before .before) .pre in
-    let so-far = c .before .before .before .loop .inv in
-    (p .0, c .before .before .loop-test .taken, so-far .1, so-far .2, so-far .3)
+    let turn = c .before .before in
+    let inv = turn .before .loop .inv in
+    let p = start (turn .before .before) .pre in
+    (record { prepared = p .0; below = turn .loop-test .taken }, inv .1, inv .3 .0, inv .2)
 
 add-i : tie.Need-add-i Inv-loop μ-loop
 add-i c = search needs
@@ -59,15 +61,9 @@ loop-less c = search needs
 
 loop-again : tie.Need-loop-again Inv-loop μ-loop
 loop-again c =
-    let box = c .before .before .before .before in
-    let so-far = box .before .before .before .before .loop .inv in
-    let put = box .step3-box .ensures in (
-      search needs,
-      search needs,
-      search needs,
-      put .1,
-      λ rows e. box-turn _ _ _ (so-far .4 rows e) (put .0 rows e),
-    )
+    let put = box c .step3-box .ensures in
+    let inv = so-far (box c) .loop .inv in
+    (search needs, search needs, put .1, boxes-turn _ _ _ _ (inv .3) (search needs) (put .0))
 
 same-length : tie.Need-same-length Inv-loop μ-loop
 same-length c = search needs
@@ -76,7 +72,7 @@ same-length-2 : tie.Need-same-length-2 Inv-loop μ-loop
 same-length-2 c = search needs
 
 returns : tie.Need-returns Inv-loop μ-loop
-returns c = λ rows e. box-whole _ (omega arith) (c .before .loop .inv .4 rows e)
+returns c = boxes-end _ _ _ (omega arith) (c .before .loop .inv .3)
 
 pub step3-spec : {M : Type 1} → statement M
 step3-spec =

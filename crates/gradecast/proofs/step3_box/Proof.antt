@@ -4,10 +4,8 @@
 use mathlib.Core.Path.{sym, _∙_}
 use native.Mathlib.Omega.{arith}
 use Rattle.sizes.proofs.Laws.{square-le}
-use Rattle.gradecast.proofs.Asked.{votes-made}
-use Rattle.gradecast.proofs.Cells.{put-nothing, put-same}
+use Rattle.gradecast.proofs.Asked.{seat-faulty, seat-sound, votes-made}
 use Rattle.gradecast.proofs.Places.{second-fits}
-use Rattle.gradecast.proofs.Sound.{of-faulty}
 use borrow.Author.Needs.{needs}
 use Rattle.gradecast.proofs.step3_box.Statement.{statement}
 use Rattle.gradecast.proofs.step3_box.Tie as tie
@@ -16,9 +14,13 @@ use Rattle.gradecast.proofs.step3_box.Tie as tie
 abbrev start : tie.After-is-member → tie.Start
 start c = c .before .before .before .before
 
--- the columns are there, from the end
-abbrev columns : tie.After-slice-known4 → tie.After-hear-all
-columns c = c .before .before .before .before .before .before .before
+-- the votes are put, from the end
+abbrev put : tie.After-slice-known4 → tie.After-put-votes
+put c = c .before .before
+
+-- the columns are there, from where the votes are put
+abbrev columns : tie.After-put-votes → tie.After-hear-all
+columns c = c .before .before .before .before .before
 
 is-member-requires : tie.Need-is-member-requires
 is-member-requires c κs = search needs
@@ -27,15 +29,15 @@ returns : tie.Need-returns
 returns c =
     let p = start (c .before) .pre in
     let is-faulty = sym (c .before .is-member .ensures) ∙ c .if1 .taken in
-    (λ rows e. put-nothing (p .0 .ready .high) (p .1) _ (λ k l. of-faulty _ _ _ _ is-faulty), p .4)
+    (λ rows e. seat-faulty (p .0) is-faulty _, p .3)
 
-mul-hear-all : tie.Need-mul-hear-all
-mul-hear-all c = omega (arith, square-le (start (c .before) .pre .0 .ready .high))
+mul-base : tie.Need-mul-base
+mul-base c = omega (arith, square-le (start (c .before) .pre .0 .prepared .size .high))
 
 hear-all-requires : tie.Need-hear-all-requires
 hear-all-requires c κs =
     let p = start (c .before .before) .pre in
-    (p .0, p .1, second-fits _, p .2, p .4)
+    (p .0, second-fits _, p .1, p .3)
 
 put-votes-requires : tie.Need-put-votes-requires
 put-votes-requires c κs = search needs
@@ -48,16 +50,15 @@ same-length-2 c = search needs
 
 returns-2 : tie.Need-returns-2
 returns-2 c =
-    let h = columns c in
-    let box = h .before .before in
+    let heard = columns (put c) in
+    let box = heard .before .before in
     let p = start (box .before) .pre in
     let is-sound = sym (box .before .is-member .ensures) ∙ box .if1 .left in
-    let size = h .hear-all .kept .1 .1 .1 .1 .1 .1 .0 ∙ p .2 in (
+    let size = heard .hear-all .kept .1 .1 .1 .1 .1 .0 ∙ p .1 in (
       λ rows e.
-          put-same (p .0 .ready .high) (p .1) _ _
-          (votes-made _ _ _ _ _ _ (p .0) (p .1) size is-sound rows (h .hear-all .ensures .0) e)
-          (c .before .before .put-votes .ensures),
-      h .hear-all .ensures .1,
+          seat-sound (p .0) _ _ (votes-made _ _ _ _ _ (p .0) size is-sound rows (heard .hear-all .ensures .0) e)
+          (put c .put-votes .ensures),
+      heard .hear-all .ensures .1,
     )
 
 pub step3-box-spec : {M : Type 1} → statement M
@@ -66,7 +67,7 @@ step3-box-spec =
     (tie.spec
     is-member-requires
     returns
-    mul-hear-all
+    mul-base
     hear-all-requires
     put-votes-requires
     same-length

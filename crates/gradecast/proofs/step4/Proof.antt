@@ -1,39 +1,39 @@
 -- `gradecast::step4` meets its contract: after i turns the grades of the boxes below i are put, and what every box
 -- hears alike is there, as it was put down before the first. What is left of n falls. Assumes nothing.
-use mathlib.Core.Path.{_≡_, sym, ap, _∙_}
-use mathlib.Core.List.{List}
-use Prim.Native.Nat.{ℕ, _*_, _-_, _≤_}
+use mathlib.Core.Path.{_≡_, _∙_}
+use Prim.Native.Nat.{_-_, _≤_}
 use native.Mathlib.Omega.{arith}
 use lib.ListN.{length}
-use Rattle.gradecast.specs.Steps.{gradeRow, confidence}
-use Rattle.gradecast.specs.Cast.{ofSound, cellsTo}
-use Rattle.gradecast.specs.Inside.{PlainHeard, SaidThird}
-use Rattle.gradecast.proofs.Cells.{cells-none, box-turn, box-whole}
+use Rattle.gradecast.specs.Inside.{PlainHeard, SaidThird, rowsOfSound, confidencesOfSound}
+use Rattle.gradecast.proofs.Cells.{BoxesTo, boxes-begin, boxes-turn, boxes-end}
 use borrow.Author.Needs.{needs}
 use Rattle.gradecast.proofs.step4.Statement.{statement}
 use Rattle.gradecast.proofs.step4.Tie as tie
 
 abbrev Inv-loop : tie.InvT-loop
 Inv-loop hall lists table third heard₀ rows₀ confidences₀ n i₀ heard rows confidences i =
-    (i ≤ hall .n) ×
+    (i ≤ hall .settings .n) ×
     (length heard ≡ 169) ×
-    (length rows ≡ 169) ×
-    (length confidences ≡ 169) ×
-    PlainHeard (hall .n) (hall .faulty) lists third heard ×
-    ((held : List ℕ) → SaidThird (hall .n) (hall .t) (hall .faulty) lists table third held →
-    (rows ≡
-    cellsTo (i * hall .n) (hall .n)
-    (ofSound (hall .faulty) (gradeRow (hall .n) (hall .t) (hall .faulty) held lists table))) ×
-    (confidences ≡
-    cellsTo (i * hall .n) (hall .n)
-    (ofSound (hall .faulty) (confidence (hall .n) (hall .t) (hall .faulty) held lists table))))
+    PlainHeard (hall .settings) lists third heard ×
+    BoxesTo (hall .settings .n) (SaidThird (hall .settings) lists table third)
+    (λ held. rowsOfSound (hall .settings) held lists table) i rows ×
+    BoxesTo (hall .settings .n) (SaidThird (hall .settings) lists table third)
+    (λ held. confidencesOfSound (hall .settings) held lists table) i confidences
 
 abbrev μ-loop : tie.MeasureT-loop
-μ-loop hall lists table third heard₀ rows₀ confidences₀ n i₀ heard rows confidences i = hall .n - i
+μ-loop hall lists table third heard₀ rows₀ confidences₀ n i₀ heard rows confidences i = hall .settings .n - i
 
 -- the entry, from the loop's beginning
 abbrev start : tie.After-slice-known4 Inv-loop μ-loop → tie.Start Inv-loop μ-loop
 start c = c .before .before .before .before .before .before .before .before
+
+-- the box, from a turn's end
+abbrev box : tie.After-slice-known7 Inv-loop μ-loop → tie.After-step4-box Inv-loop μ-loop
+box c = c .before .before .before .before .before .before
+
+-- the loop, from the box
+abbrev so-far : tie.After-step4-box Inv-loop μ-loop → tie.At-loop Inv-loop μ-loop
+so-far c = c .before .before .before .before .before
 
 hear-plain-requires : tie.Need-hear-plain-requires Inv-loop μ-loop
 hear-plain-requires c κs = search needs
@@ -44,17 +44,17 @@ loop-holds c =
     let plain = c .before .before .hear-plain in (
       search needs,
       plain .kept .1 .1 .0 ∙ p .1,
-      ap length (p .2),
-      ap length (p .3),
       λ k j hk hj o. plain .ensures k j hk hj,
-      λ rows e. (p .2 ∙ cells-none _ _, p .3 ∙ cells-none _ _),
+      boxes-begin _ _ _ (p .2),
+      boxes-begin _ _ _ (p .3),
     )
 
 step4-box-requires : tie.Need-step4-box-requires Inv-loop μ-loop
 step4-box-requires c κs =
-    let p = start (c .before .before .before .before .before) .pre in
-    let so-far = c .before .before .before .before .loop .inv in
-    (p .0, c .before .before .before .loop-test .taken, so-far .1, so-far .2, so-far .3, so-far .4)
+    let turn = c .before .before .before in
+    let inv = turn .before .loop .inv in
+    let p = start (turn .before .before) .pre in
+    (record { prepared = p .0; below = turn .loop-test .taken }, inv .1, inv .3 .0, inv .4 .0, inv .2)
 
 add-i : tie.Need-add-i Inv-loop μ-loop
 add-i c = search needs
@@ -64,25 +64,20 @@ loop-less c = search needs
 
 loop-again : tie.Need-loop-again Inv-loop μ-loop
 loop-again c =
-    let box = c .before .before .before .before .before .before in
-    let so-far = box .before .before .before .before .before .loop .inv in
-    let put = box .step4-box .ensures in (
-      search needs,
-      search needs,
+    let put = box c .step4-box .ensures in
+    let inv = so-far (box c) .loop .inv in (
       search needs,
       search needs,
       put .1 .1,
-      λ rows e. (
-        box-turn _ _ _ (so-far .5 rows e .0) (put .0 rows e),
-        box-turn _ _ _ (so-far .5 rows e .1) (put .1 .0 rows e),
-      ),
+      boxes-turn _ _ _ _ (inv .3) (search needs) (put .0),
+      boxes-turn _ _ _ _ (inv .4) (search needs) (put .1 .0),
     )
 
 same-length : tie.Need-same-length Inv-loop μ-loop
 same-length c = search needs
 
 same-length-2 : tie.Need-same-length-2 Inv-loop μ-loop
-same-length-2 c = c .before .loop .inv .2 ∙ sym (ap length (start (c .before .before) .pre .2))
+same-length-2 c = search needs
 
 same-length-3 : tie.Need-same-length-3 Inv-loop μ-loop
 same-length-3 c = search needs
@@ -90,8 +85,8 @@ same-length-3 c = search needs
 returns : tie.Need-returns Inv-loop μ-loop
 returns c =
     λ rows e.
-    let so-far = c .before .loop .inv .5 rows e in
-    (box-whole _ (omega arith) (so-far .0), box-whole _ (omega arith) (so-far .1))
+    let inv = c .before .loop .inv in
+    (boxes-end _ _ _ (omega arith) (inv .3) rows e, boxes-end _ _ _ (omega arith) (inv .4) rows e)
 
 pub step4-spec : {M : Type 1} → statement M
 step4-spec =
