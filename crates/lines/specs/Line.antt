@@ -50,6 +50,15 @@ unfoldable pub lineWrites : List ℕ → List ℕ → List ℕ → List ℕ
 lineWrites word numbers slice =
     cond (tooShort word numbers (length slice)) slice (placed slice 0 (lineOf word numbers))
 
+-- a line put at a place of a text, in what is left from there: the place behind it, or the same where it does not fit;
+-- `room` is the length of the text
+unfoldable pub putReply : List ℕ → List ℕ → ℕ → ℕ → ℕ
+putReply word numbers room at = at + lineReply word numbers (room - at) .size
+
+-- the text afterwards
+unfoldable pub putWrites : List ℕ → List ℕ → List ℕ → ℕ → List ℕ
+putWrites word numbers text at = take at text ++ lineWrites word numbers (drop at text)
+
 -- the number that a text of decimal digits stands for, behind a number already read
 unfoldable pub readOn : ℕ → List ℕ → ℕ
 readOn before [] = before

@@ -1,10 +1,19 @@
 // The lines of text: a word and numbers in decimal, written at the front of a lent slice.
 ghost use mathlib.Core.Path.{_≡_};
-ghost use mathlib.Core.List.{_++_};
-ghost use Prim.Native.Nat.{_+_, _-_, _≤_};
+ghost use Prim.Native.Nat.{_+_, _≤_};
 ghost use lib.Dec.{ltb};
-ghost use lib.ListN.{length, take, drop};
-ghost use Rattle.lines.specs.Line.{decimal, field, fields, placed, tooShort, lineReply, lineWrites};
+ghost use lib.ListN.{length};
+ghost use Rattle.lines.specs.Line.{
+  decimal,
+  field,
+  fields,
+  placed,
+  tooShort,
+  lineReply,
+  lineWrites,
+  putReply,
+  putWrites,
+};
 
 // The reply of a line: the refusal's number, or 0 with the number of bytes written.
 pub struct Written {
@@ -80,7 +89,8 @@ fn put_number(out: &mut [u8], at: usize, n: u64) -> usize
 fn put_numbers(out: &mut [u8], at: usize, numbers: &[u64]) -> usize
     requires { ⌜ at + length (fields (now numbers) (length (now numbers))) ≤ length (now out) ⌝ }
     ensures { λ r. ⌜ r ≡ at + length (fields (now (numbers .entry)) (length (now (numbers .entry)))) ⌝ }
-    ensures { λ r. ⌜ now (out .exit) ≡ placed (now (out .entry)) at (fields (now (numbers .entry)) (length (now (numbers .entry)))) ⌝ }
+    ensures { λ r. ⌜ now (out .exit) ≡
+        placed (now (out .entry)) at (fields (now (numbers .entry)) (length (now (numbers .entry)))) ⌝ }
 {
     let mut end = at;
     let mut i: usize = 0;
@@ -105,27 +115,25 @@ pub fn write_line(out: &mut [u8], word: &[u8], numbers: &[u64]) -> Written
     let place = bytes::copy(word, out);
     let end = put_numbers(out, place, numbers);
     out[end] = b'\n';
-    Written {
-        refusal: 0,
-        size: end + 1,
-    }
+    let size = end + 1;
+    Written { refusal: 0, size }
 }
 
 // Puts a line at a place that lies within the text.
 fn put_within(text: &mut [u8], at: usize, word: &[u8], numbers: &[u64]) -> usize
     requires { ⌜ at ≤ length (now text) ⌝ }
-    ensures { λ r. ⌜ r ≡ at + lineReply (now (word .entry)) (now (numbers .entry)) (length (now (text .entry)) - at) .size ⌝ }
-    ensures { λ r. ⌜ r ≤ length (now (text .entry)) ⌝ }
-    ensures { λ r. ⌜ now (text .exit) ≡ take at (now (text .entry)) ++ lineWrites (now (word .entry)) (now (numbers .entry)) (drop at (now (text .entry))) ⌝ }
+    ensures { λ r. ⌜ r ≡ putReply (now (word .entry)) (now (numbers .entry)) (length (now (text .entry))) at ⌝ }
+    ensures { λ r. ⌜ now (text .exit) ≡
+        putWrites (now (word .entry)) (now (numbers .entry)) (now (text .entry)) at ⌝ }
 {
     at + write_line(&mut text[at..], word, numbers).size
 }
 
 // Puts a line at a place of the text and gives the place behind it. A line that does not fit is left out.
 pub fn put_line(text: &mut [u8], at: usize, word: &[u8], numbers: &[u64]) -> usize
-    ensures { λ r. ⌜ r ≡ at + lineReply (now (word .entry)) (now (numbers .entry)) (length (now (text .entry)) - at) .size ⌝ }
-    ensures { λ r. ⌜ r ≤ at + (length (now (text .entry)) - at) ⌝ }
-    ensures { λ r. ⌜ now (text .exit) ≡ take at (now (text .entry)) ++ lineWrites (now (word .entry)) (now (numbers .entry)) (drop at (now (text .entry))) ⌝ }
+    ensures { λ r. ⌜ r ≡ putReply (now (word .entry)) (now (numbers .entry)) (length (now (text .entry))) at ⌝ }
+    ensures { λ r. ⌜ now (text .exit) ≡
+        putWrites (now (word .entry)) (now (numbers .entry)) (now (text .entry)) at ⌝ }
 {
     if text.len() < at {
         return at;

@@ -8,7 +8,7 @@ use native.Mathlib.Nat.{add-zero}
 use native.Mathlib.Omega.{arith}
 use lib.ListN.{length, take, drop, length-append}
 use Rattle.counting.specs.Count.{sum}
-use Rattle.lines.specs.Line.{decimal, lineOf, lineReply, lineWrites}
+use Rattle.lines.specs.Line.{decimal, lineOf, putReply, putWrites}
 use Rattle.lines.proofs.Decimal.{decimal-most}
 use Rattle.lines.proofs.Lines.{line-size}
 use Rattle.lines.proofs.Placed.{placed-none, placed-length, placed-then}
@@ -22,9 +22,10 @@ put-nothing xs at = record { ends = sym (add-zero at); stands = placed-none xs a
 -- what the call that puts a line says, where a line so long at most has its place
 pub put-line : (word numbers xs ys : List ℕ) (at end most : ℕ) → length (lineOf word numbers) ≤ most →
     at + most ≤ length xs →
-    end ≡ at + lineReply word numbers (length xs - at) .size →
-    ys ≡ take at xs ++ lineWrites word numbers (drop at xs) →
+    end ≡ putReply word numbers (length xs) at →
+    ys ≡ putWrites word numbers xs at →
     Put xs ys at end (lineOf word numbers) × (end ≤ at + most)
+unfolding putReply putWrites
 put-line word numbers xs ys at end most short room e w =
     let fits : at + length (lineOf word numbers) ≤ length xs = omega arith in
     let behind : end ≡ at + length (lineOf word numbers) =

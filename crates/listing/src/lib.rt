@@ -136,7 +136,8 @@ fn put_at(done: u8, i: usize, row: u64, list: u16, text: &mut [u8], at: usize) -
     requires { ⌜ (i < 13) × (at + 37 ≤ length (now text)) ⌝ }
     ensures { λ r. ⌜ Put (now (text .entry)) (now (text .exit)) at r (atLine done i row list) × (r ≤ at + 37) ⌝ }
 {
-    let numbers = [done as u64, (i + 1) as u64, row, list as u64];
+    let number = i + 1;
+    let numbers = [done as u64, number as u64, row, list as u64];
     lines::put_line(text, at, b"at", &numbers)
 }
 

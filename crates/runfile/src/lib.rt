@@ -180,7 +180,9 @@ fn write_four(bytes: &[u8], place: usize, rows: &mut [u64], k: usize)
 // Writes the rows from place k to a count, one by one; those before stand already.
 fn write_rest(bytes: &[u8], at: usize, from: usize, count: usize, rows: &mut [u64])
     requires { ⌜ (at + 8 * count ≤ length (now bytes)) × (from ≤ count) × (count ≤ length (now rows)) ⌝ }
-    ensures { λ r. ⌜ ((xs : List ℕ) → length xs ≡ length (now (rows .entry)) → now (rows .entry) ≡ front from (rowFrom at (now (bytes .entry))) xs → now (rows .exit) ≡ front count (rowFrom at (now (bytes .entry))) xs) ⌝ }
+    ensures { λ r. ⌜ ((xs : List ℕ) → length xs ≡ length (now (rows .entry)) →
+        now (rows .entry) ≡ front from (rowFrom at (now (bytes .entry))) xs →
+        now (rows .exit) ≡ front count (rowFrom at (now (bytes .entry))) xs) ⌝ }
 {
     let mut k = from;
     while k < count {
@@ -207,12 +209,16 @@ fn heading_of(bytes: &[u8]) -> Heading
     requires { ⌜ (9 ≤ length (now bytes)) × (outside (nOf (now bytes)) ≡ false) ⌝ }
     ensures { λ r. ⌜ r ≡ headingOf (now (bytes .entry)) ⌝ }
 {
+    let version = number2(bytes, 3) as u16;
+    let n = bytes[5];
+    let t = t_of(n, bytes[6]);
+    let faulty = number2(bytes, 7) as u16;
     Heading {
         refusal: 0,
-        version: number2(bytes, 3) as u16,
-        n: bytes[5],
-        t: t_of(bytes[5], bytes[6]),
-        faulty: number2(bytes, 7) as u16,
+        version,
+        n,
+        t,
+        faulty,
     }
 }
 

@@ -134,7 +134,8 @@ add-result-3 c =
 same-length-3 : tie.Need-same-length-3
 same-length-3 c =
     let copy = c .before .before .copy in
-    let f = start-of (c .before .before .before .before .before) .args in
+    let d = c .before .before .before .before .before in
+    let f = start-of d .args in
     let out = f .out .now in
     same-len-mid (f .at) (length out - f .at) out (copy .last .1 .0) (copy .kept .1 .0)
 

@@ -6,7 +6,7 @@ use mathlib.Core.List.{List, _++_}
 use native.Mathlib.Omega.{arith}
 use lib.ListN.{length, take, length-drop}
 use Rattle.lines.specs.declared.Written.{Written}
-use Rattle.lines.specs.Line.{lineReply, lineWrites}
+use Rattle.lines.specs.Line.{lineReply, lineWrites, putReply, putWrites}
 use Rattle.lines.proofs.Placed.{rest-whole, rest-none}
 use Rattle.lines.proofs.Put.{line-within}
 use borrow.Author.Needs.{needs}
@@ -53,19 +53,17 @@ same-length : tie.Need-same-length
 same-length c = search needs
 
 returns : tie.Need-returns
+unfolding putReply putWrites
 returns c =
     let last = c .before .before .before in
     let f = start-of last .args in
     let at = f .at in
     let text = text-of last in (
       ap (λ (k : ℕ). at + k) (is last),
-      (
-        within last,
-        ap (λ (ys : List ℕ). take at text ++ ys)
-            (rest-none text (last .write-line .last .0) at
-            ∙ last .write-line .ensures .1
-            ∙ ap (lineWrites (f .word .now) (f .numbers .now)) (rest-whole text at)),
-      ),
+      ap (λ (ys : List ℕ). take at text ++ ys)
+          (rest-none text (last .write-line .last .0) at
+          ∙ last .write-line .ensures .1
+          ∙ ap (lineWrites (f .word .now) (f .numbers .now)) (rest-whole text at)),
     )
 
 pub put-within-spec : {M : Type 1} → statement M

@@ -98,8 +98,8 @@ put-numbers-requires c κs =
 slice-write-out : tie.Need-slice-write-out
 slice-write-out c = omega (arith, fits-of (else-of c), end-of c, long-of c)
 
-add-t7 : tie.Need-add-t7
-add-t7 c = omega (arith, fits-of (else-of c), end-of c, first-of c .good .0 .0)
+add-size : tie.Need-add-size
+add-size c = omega (arith, fits-of (else-of c), end-of c, first-of c .good .0 .0)
 
 same-length : tie.Need-same-length
 same-length c = length-set (c .before .before .put-numbers .last .0) _ _ ∙ long-of c
@@ -130,7 +130,7 @@ write-line-spec =
     copy-requires
     put-numbers-requires
     slice-write-out
-    add-t7
+    add-size
     same-length
     returns-2)
 

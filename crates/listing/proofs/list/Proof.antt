@@ -61,8 +61,8 @@ returns-2 c =
     let t = c .before .before .before .before .before .before .before in
     let bytes = bytes-of t in
     let out = t .before .before .before .before .args .out .now in
-    let fits : length (listingOf bytes) ≤ length out =
-    omega (arith, size-of t, c .before .before .before .before .before .if1 .left) in
+    let room = c .before .before .before .before .before in
+    let fits : length (listingOf bytes) ≤ length out = omega (arith, size-of t, room .if1 .left) in
     let ends = ap (λ (r : Next). r .refusal) (t .tell .ensures .0 .outcome) ∙ outcome-ends bytes in (
       list-given bytes _ _ _ fits (size-of t) ends,
       list-copied bytes _ out _ (told t .1) fits (c .before .before .copy .ensures .1),

@@ -8,8 +8,8 @@ use borrow.Author.Needs.{needs}
 use Rattle.listing.proofs.put_at.Statement.{statement}
 use Rattle.listing.proofs.put_at.Tie as tie
 
-add-t10 : tie.Need-add-t10
-add-t10 c = search needs
+add-number : tie.Need-add-number
+add-number c = search needs
 
 slice-aggregate-put-line : tie.Need-slice-aggregate-put-line
 slice-aggregate-put-line c = search needs
@@ -32,13 +32,13 @@ returns c =
     let e = c .before .before .put-line .ensures in
     put-line at-word (a .done ∷ (a .i + 1) ∷ a .row ∷ a .list ∷ []) (a .text .now) _ (a .at) _ 37
     (at-most (a .done) (a .i) (a .row) (a .list) (f .done .fits) (s .pre .0) (f .row .fits) (f .list .fits))
-    (s .pre .1) (e .0) (e .1 .1)
+    (s .pre .1) (e .0) (e .1)
 
 pub put-at-spec : {M : Type 1} → statement M
 put-at-spec =
     tie.close
     (tie.spec
-    add-t10
+    add-number
     slice-aggregate-put-line
     slice-aggregate-put-line-2
     put-line-requires

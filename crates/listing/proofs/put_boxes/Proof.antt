@@ -57,11 +57,12 @@ same-length c = search needs
 returns : tie.Need-returns Inv-loop μ-loop
 returns c =
     let inv = c .before .loop .inv in
-    let all : c .before .loop .i ≡ c .before .before .before .before .args .s .n = omega arith in
+    let start = c .before .before .before .before in
+    let all : c .before .loop .i ≡ start .args .s .n = omega arith in
     let a = c .before .before .before .before .args in (
       subst (λ (k : ℕ). Put (a .text .now) (c .before .loop .text) (a .at) (c .before .loop .end)
           (boxLines (a .s) k)) all (inv .2),
-      omega (arith, inv .3, c .before .before .before .before .pre),
+      omega (arith, inv .3, start .pre),
     )
 
 pub put-boxes-spec : {M : Type 1} → statement M

@@ -30,7 +30,7 @@ returns c =
     let put =
     put-line refused-word (a .refusal ∷ []) (a .text .now) _ (a .at) _ 26
     (refused-most (a .refusal) (s .fits .refusal .fits))
-    (s .pre) (e .0) (e .1 .1) in
+    (s .pre) (e .0) (e .1) in
     rw (ne-eqb (a .refusal) 0 (branch .if1 .taken)) put
 
 slice-aggregate-put-line-3 : tie.Need-slice-aggregate-put-line-3
@@ -55,7 +55,7 @@ returns-2 c =
     let put =
     put-line sent-word (a .sent ∷ []) (a .text .now) _ (a .at) _ 26
     (sent-most (a .sent) (s .fits .sent .fits))
-    (s .pre) (e .0) (e .1 .1) in
+    (s .pre) (e .0) (e .1) in
     rw (eq-eqb (a .refusal) 0 (branch .if1 .left)) put
 
 pub put-last-spec : {M : Type 1} → statement M

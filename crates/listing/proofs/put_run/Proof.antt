@@ -28,7 +28,7 @@ returns c =
     let e = c .before .before .put-line .ensures in
     put-line run-word (a .n ∷ a .t ∷ a .faulty ∷ []) (a .text .now) _ 0 _ 18
     (run-most (a .n) (a .t) (a .faulty) (f .n .fits) (f .t .fits) (f .faulty .fits))
-    (s .pre) (e .0) (e .1 .1)
+    (s .pre) (e .0) (e .1)
 
 pub put-run-spec : {M : Type 1} → statement M
 put-run-spec =

@@ -1,14 +1,14 @@
 -- `runfile::has_sound_zero` meets its contract: a turn ends the search where box k is sound and its row is 0, and
 -- otherwise none of the first k + 1 boxes is such. What is left of n falls. Assumes nothing.
 use mathlib.Core.Path.{_≡_, sym, ap, _∙_}
-use mathlib.Core.Bool.{Bool, false, _&&_}
+use mathlib.Core.Bool.{Bool, _&&_}
 use mathlib.Core.List.{List}
-use Prim.Native.Nat.{ℕ, _≤_, _-_}
+use Prim.Native.Nat.{ℕ, _-_}
 use native.Mathlib.Omega.{arith}
 use lib.Dec.{eqb}
 use lib.ListN.{getD}
-use Rattle.counting.specs.Count.{any, build}
-use Rattle.counting.proofs.Count.{any-turn, some-any}
+use Rattle.counting.specs.Count.{build}
+use Rattle.counting.proofs.Loops.{NoneYet, search-begins, search-turn, search-hits, search-ends}
 use Rattle.counting.proofs.Build.{getD-build}
 use Rattle.sizes.specs.Sizes.{sound, soundZero}
 use Rattle.sizes.proofs.Laws.{inside-high}
@@ -22,28 +22,31 @@ abbrev zeroAt : List ℕ → ℕ → ℕ → ℕ → Bool
 zeroAt bytes n faulty j = sound faulty j && eqb (getD (build n (headingRow bytes)) j 0) 0
 
 abbrev Inv-loop : tie.InvT-loop
-Inv-loop bytes n faulty k₀ k = (k ≤ n) × (any k (zeroAt bytes n faulty) ≡ false)
+Inv-loop bytes n faulty k₀ k = NoneYet n (zeroAt bytes n faulty) k
 
 abbrev μ-loop : tie.MeasureT-loop
 μ-loop bytes n faulty k₀ k = n - k
 
 -- the test at box k, made of its row in the heading
+abbrev start-of : tie.After-is-sound-zero Inv-loop μ-loop → tie.Start Inv-loop μ-loop
+start-of c = c .before .before .before .before .before
+
+abbrev box-of : tie.After-is-sound-zero Inv-loop μ-loop → ℕ
+box-of c = c .before .before .before .loop .k
+
 at-box : (c : tie.After-is-sound-zero Inv-loop μ-loop) →
-    zeroAt (c .before .before .before .before .before .args .bytes .now)
-    (c .before .before .before .before .before .args .n)
-    (c .before .before .before .before .before .args .faulty) (c .before .before .before .loop .k)
-    ≡ c .is-sound-zero .result
+    let a = start-of c .args in
+    c .is-sound-zero .result ≡ zeroAt (a .bytes .now) (a .n) (a .faulty) (box-of c)
 unfolding headingRow rowFrom
 at-box c =
-    let f = c .before .before .before .before .before .args in
-    let k = c .before .before .before .loop .k in
-    ap (λ (row : ℕ). sound (f .faulty) k && eqb row 0)
-    (getD-build (f .n) (headingRow (f .bytes .now)) k 0 (search needs) ∙ sym (c .before .number8 .ensures))
-    ∙ sym (c .is-sound-zero .ensures)
+    let a = start-of c .args in
+    let k = box-of c in
+    let row = getD-build (a .n) (headingRow (a .bytes .now)) k 0 (search needs) in
+    c .is-sound-zero .ensures
+    ∙ ap (λ (row : ℕ). sound (a .faulty) k && eqb row 0) (c .before .number8 .ensures ∙ sym row)
 
 loop-holds : tie.Need-loop-holds Inv-loop μ-loop
-unfolding any
-loop-holds c = search needs
+loop-holds c = search-begins _
 
 mul-number8 : tie.Need-mul-number8 Inv-loop μ-loop
 unfolding headingBytes
@@ -58,13 +61,11 @@ unfolding headingBytes
 number8-requires c κs = omega arith
 
 is-sound-zero-requires : tie.Need-is-sound-zero-requires Inv-loop μ-loop
-is-sound-zero-requires c κs = omega (arith, inside-high _ (c .before .before .before .before .pre .0))
+is-sound-zero-requires c κs = let s = c .before .before .before in omega (arith, inside-high _ (s .before .pre .0))
 
 returns : tie.Need-returns Inv-loop μ-loop
 unfolding soundZero
-returns c =
-    sym
-    (some-any _ _ (c .before .before .before .before .loop .k) (search needs) (at-box (c .before) ∙ c .if1 .taken))
+returns c = search-hits _ (search needs) (at-box (c .before)) (c .if1 .taken)
 
 add-k : tie.Need-add-k Inv-loop μ-loop
 add-k c = search needs
@@ -73,15 +74,11 @@ loop-less : tie.Need-loop-less Inv-loop μ-loop
 loop-less c = search needs
 
 loop-again : tie.Need-loop-again Inv-loop μ-loop
-loop-again c =
-    (search needs, any-turn _ _ (c .before .before .before .before .loop .inv .1) (at-box (c .before) ∙ c .if1 .left))
+loop-again c = search-turn _ (search needs) (search needs) (at-box (c .before)) (c .if1 .left)
 
 returns-2 : tie.Need-returns-2 Inv-loop μ-loop
 unfolding soundZero
-returns-2 c =
-    let whole : c .before .loop .k ≡ c .before .before .before .args .n = omega arith in
-    let f = c .before .before .before .args in
-    sym (ap (λ (m : ℕ). any m (zeroAt (f .bytes .now) (f .n) (f .faulty))) (sym whole) ∙ c .before .loop .inv .1)
+returns-2 c = search-ends _ (c .before .loop .inv) (omega arith)
 
 pub has-sound-zero-spec : {M : Type 1} → statement M
 has-sound-zero-spec =

@@ -3,7 +3,7 @@
 use mathlib.Core.Path.{_≡_, sym, ap, _∙_}
 use mathlib.Core.Bool.{not, false}
 use mathlib.Core.List.{List, []}
-use Prim.Native.Nat.{ℕ}
+use Prim.Native.Nat.{ℕ, _≤_}
 use native.Mathlib.Omega.{arith}
 use lib.ListN.{drop, getD}
 use borrow.Author.Tests.{eq-eqb, ne-eqb, lt-ltb, le-ltb}
@@ -102,8 +102,9 @@ zero-of : (c : tie.After-has-sound-zero) →
 unfolding faultyOf
 zero-of c =
     let s = start-7 (c .before) in
+    let set = c .before .before .before .before in
     ap (λ (faulty : ℕ). soundZero (n-of s) faulty (build (n-of s) (headingRow (bytes-of s))))
-    (sym (c .before .before .before .before .number22 .ensures .0))
+    (sym (set .number22 .ensures .0))
     ∙ sym (c .has-sound-zero .ensures)
 
 passed-9 : (c : tie.Else8) → Passed (start-8 c) 8
@@ -166,14 +167,21 @@ returns-6 : tie.Need-returns-6
 unfolding headingTests nOf
 returns-6 c = sym (passed-5 (c .before .before .before) ∙ refused 6 _ (stray-of (c .before) ∙ c .if6 .taken))
 
+-- where 4 was passed, from where 6 is
+abbrev fourth : tie.Else6 → tie.Else4
+fourth c = c .before .before .before .before .before .before
+
+n-high : (c : tie.Else6) → n-of (start-6 c) ≤ 13
+n-high c = inside-high _ (inside-of (fourth c))
+
 cast-if7 : tie.Need-cast-if7
-cast-if7 c = omega (arith, inside-high _ (inside-of (c .before .before .before .before .before .before)))
+cast-if7 c = omega (arith, n-high c)
 
 mul-if7 : tie.Need-mul-if7
-mul-if7 c = omega (arith, inside-high _ (inside-of (c .before .before .before .before .before .before)))
+mul-if7 c = omega (arith, n-high c)
 
 add-if7 : tie.Need-add-if7
-add-if7 c = omega (arith, inside-high _ (inside-of (c .before .before .before .before .before .before)))
+add-if7 c = omega (arith, n-high c)
 
 returns-7 : tie.Need-returns-7
 unfolding headingTests nOf headingBytes
@@ -184,7 +192,7 @@ cast-has-sound-zero c = search needs
 
 has-sound-zero-requires : tie.Need-has-sound-zero-requires
 unfolding headingBytes
-has-sound-zero-requires c κs = (inside-of (c .before .before .before .before .before .before .before), search needs)
+has-sound-zero-requires c κs = (inside-of (fourth (c .before)), search needs)
 
 returns-8 : tie.Need-returns-8
 unfolding headingTests nOf

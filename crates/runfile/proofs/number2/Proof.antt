@@ -33,14 +33,13 @@ add-result c = search needs
 returns : tie.Need-returns
 unfolding number
 returns c =
-    let bytes = c .before .before .before .before .before .args .bytes .now in
-    let at = c .before .before .before .before .before .args .at in (
+    let first = c .before .before in
+    let a = first .before .before .before .args in (
       omega (
         arith,
-        c .before .before .wide .ensures .0,
+        first .wide .ensures .0,
         c .wide2 .ensures .0,
-        ap (λ (m : ℕ). getD bytes m 0)
-            (add-zero at),
+        ap (λ (m : ℕ). getD (a .bytes .now) m 0) (add-zero (a .at)),
       ),
       search needs,
     )

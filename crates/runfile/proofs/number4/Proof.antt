@@ -63,14 +63,17 @@ add-result-3 c = search needs
 returns : tie.Need-returns
 unfolding number
 returns c =
-    let f = c .before .before .before .before .before .before .before .before .before .args in (
+    let third = c .before .before in
+    let second = third .before .before in
+    let first = second .before .before in
+    let a = first .before .before .before .args in (
       omega (
         arith,
-        c .before .before .before .before .before .before .wide .ensures .0,
-        c .before .before .before .before .wide2 .ensures .0,
-        c .before .before .wide3 .ensures .0,
+        first .wide .ensures .0,
+        second .wide2 .ensures .0,
+        third .wide3 .ensures .0,
         c .wide4 .ensures .0,
-        ap (λ (m : ℕ). getD (f .bytes .now) m 0) (add-zero (f .at)),
+        ap (λ (m : ℕ). getD (a .bytes .now) m 0) (add-zero (a .at)),
       ),
       search needs,
     )

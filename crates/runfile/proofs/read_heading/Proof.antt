@@ -32,8 +32,7 @@ none c = sym (c .before .heading-refusal .ensures) ∙ c .if1 .left
 read : (c : tie.Else1) → Readable (start-of c .args .bytes .now) (length (start-of c .args .rows .now))
 read c = heading-readable _ _ (none c)
 
-n-of : (c : tie.After-heading-of) →
-    c .heading-of .result .n ≡ nOf (c .before .before .before .before .before .args .bytes .now)
+n-of : (c : tie.After-heading-of) → c .heading-of .result .n ≡ nOf (start-of (c .before) .args .bytes .now)
 unfolding headingOf
 n-of c = ap (λ (h : Heading). h .n) (c .heading-of .ensures)
 
@@ -43,11 +42,10 @@ heading-refusal-requires c κs = search needs
 returns : tie.Need-returns
 unfolding nothingRead
 returns c =
-    let e = c .before .heading-refusal .ensures in (
-      ap nothingRead e
-          ∙ sym (heading-refused _ (c .before .before .before .before .args .rows .now) (λ z. c .if1 .taken (e ∙ z))),
-      sym (heading-leaves _ _ (λ z. c .if1 .taken (e ∙ z))),
-    )
+    let e = c .before .heading-refusal .ensures in
+    let a = c .before .before .before .before .args in
+    let some : headingRefusal (a .bytes .now) (length (a .rows .now)) ≡ 0 → ⊥ = λ z. c .if1 .taken (e ∙ z) in
+    (ap nothingRead e ∙ sym (heading-refused _ (a .rows .now) some), sym (heading-leaves _ _ some))
 
 heading-of-requires : tie.Need-heading-of-requires
 heading-of-requires c κs = (read c .long, read c .inside)
@@ -58,27 +56,27 @@ cast-write-rows c = omega (arith, n-of (c .before), inside-high _ (read (c .befo
 write-rows-requires : tie.Need-write-rows-requires
 unfolding headingBytes
 write-rows-requires c κs =
-    omega (
-      arith,
-      n-of (c .before .before),
-      read (c .before .before .before) .whole,
-      read
-          (c .before .before .before) .enough,
-    )
+    let r = read (c .before .before .before) in
+    omega (arith, n-of (c .before .before), r .whole, r .enough)
 
 same-length : tie.Need-same-length
 same-length c = search needs
 
+-- where the heading is known, from where its rows are written
+abbrev known : tie.After-slice-known2 → tie.After-heading-of
+known c = c .before .before .before .before .before
+
 returns-2 : tie.Need-returns-2
 unfolding headingRow
 returns-2 c =
-    let bytes = c .before .before .before .before .before .before .before .before .before .before .args .bytes .now in
-    let rows = c .before .before .before .before .before .before .before .before .before .before .args .rows .now in (
-      c .before .before .before .before .before .heading-of .ensures
-          ∙ sym (heading-given bytes rows (none (c .before .before .before .before .before .before))),
+    let h = known c in
+    let l = h .before in
+    let bytes = start-of l .args .bytes .now in
+    let rows = start-of l .args .rows .now in (
+      h .heading-of .ensures ∙ sym (heading-given bytes rows (none l)),
       c .before .before .write-rows .ensures
-          ∙ ap (λ (n : ℕ). front n (headingRow bytes) rows) (n-of (c .before .before .before .before .before))
-          ∙ sym (heading-written bytes rows (none (c .before .before .before .before .before .before))),
+          ∙ ap (λ (n : ℕ). front n (headingRow bytes) rows) (n-of h)
+          ∙ sym (heading-written bytes rows (none l)),
     )
 
 pub read-heading-spec : {M : Type 1} → statement M

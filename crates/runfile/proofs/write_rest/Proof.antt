@@ -37,8 +37,12 @@ number8-requires c κs = search needs
 mul-rows : tie.Need-mul-rows Inv-loop μ-loop
 mul-rows c = search needs
 
+-- a turn
+abbrev start-of : tie.After-number8 Inv-loop μ-loop → tie.Start Inv-loop μ-loop
+start-of c = c .before .before .before .before .before
+
 slice-write-rows : tie.Need-slice-write-rows Inv-loop μ-loop
-slice-write-rows c = omega (arith, c .before .before .loop .inv .1, c .before .before .before .before .before .pre .2)
+slice-write-rows c = omega (arith, c .before .before .loop .inv .1, start-of c .pre .2)
 
 add-k : tie.Need-add-k Inv-loop μ-loop
 add-k c = search needs
@@ -51,8 +55,8 @@ unfolding rowFrom
 loop-again c = (
   search needs,
   simp length-set (c .before .before .loop .inv .1),
-  λ xs l e. front-turn _ _ xs _ (omega (arith, c .before .before .before .before .before .pre .2))
-      (c .before .before .loop .inv .2 xs l e) (c .number8 .ensures),
+  λ xs l e. front-turn _ _ xs _ (omega (arith, start-of c .pre .2)) (c .before .before .loop .inv .2 xs l e)
+      (c .number8 .ensures),
 )
 
 same-length : tie.Need-same-length Inv-loop μ-loop

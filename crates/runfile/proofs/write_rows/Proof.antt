@@ -24,15 +24,21 @@ loop-holds c = (search needs, refl, front-none _ _)
 add-loop : tie.Need-add-loop Inv-loop μ-loop
 add-loop c = omega (arith, c .before .before .before .pre .0)
 
+-- a turn, and where its four rows are written
+abbrev start-of : tie.In-loop Inv-loop μ-loop → tie.Start Inv-loop μ-loop
+start-of c = c .before .before .before .before
+
+abbrev turn-of : tie.After-slice-known2 Inv-loop μ-loop → tie.In-loop Inv-loop μ-loop
+turn-of c = c .before .before .before .before
+
 mul-write-four : tie.Need-mul-write-four Inv-loop μ-loop
-mul-write-four c = omega (arith, c .before .before .before .before .pre .0)
+mul-write-four c = omega (arith, start-of c .pre .0)
 
 add-write-four : tie.Need-add-write-four Inv-loop μ-loop
-add-write-four c = omega (arith, c .before .before .before .before .pre .0)
+add-write-four c = omega (arith, start-of c .pre .0)
 
 write-four-requires : tie.Need-write-four-requires Inv-loop μ-loop
-write-four-requires c κs =
-    omega (arith, c .before .before .before .before .before .pre, c .before .before .loop .inv .1)
+write-four-requires c κs = omega (arith, start-of (c .before) .pre, c .before .before .loop .inv .1)
 
 add-k : tie.Need-add-k Inv-loop μ-loop
 add-k c = search needs
@@ -43,34 +49,37 @@ loop-less c = search needs
 loop-again : tie.Need-loop-again Inv-loop μ-loop
 unfolding rowFrom fourFrom
 loop-again c =
-    let a = c .before .before .before .before .before .before .before .before .args in
-    let k = c .before .before .before .before .before .loop .k in
+    let s = start-of (turn-of c) in
+    let a = s .args in
+    let turn = turn-of c .before .loop in
+    let k = turn .k in
     let bytes = a .bytes .now in
-    let e1 : a .at + 8 * k + 8 ≡ a .at + 8 * (k + 1) = omega arith in
-    let e2 : a .at + 8 * k + 16 ≡ a .at + 8 * (k + 2) = omega arith in
-    let e3 : a .at + 8 * k + 24 ≡ a .at + 8 * (k + 3) = omega arith in (
+    let at : (m : ℕ) → a .at + 8 * k + 8 * m ≡ a .at + 8 * (k + m) = λ m. omega arith in
+    let four = c .before .before .write-four in (
       search needs,
-      c .before .before .write-four .kept .1 .1 .0 ∙ c .before .before .before .before .before .loop .inv .1,
-      c .before .before .write-four .ensures
-          ∙ front-four k (rowFrom (a .at) bytes) (a .rows .now) _
-          (omega (arith, c .before .before .before .before .before .before .before .before .pre .1))
-          (c .before .before .before .before .before .loop .inv .2) refl
-          (ap (λ (m : ℕ). number bytes m 8) e1) (ap (λ (m : ℕ). number bytes m 8) e2)
-          (ap (λ (m : ℕ). number bytes m 8) e3),
+      four .kept .1 .1 .0 ∙ turn .inv .1,
+      four .ensures
+          ∙ front-four k (rowFrom (a .at) bytes) (a .rows .now) _ (omega (arith, s .pre .1)) (turn .inv .2) refl
+          (ap (λ (m : ℕ). number bytes m 8) (at 1)) (ap (λ (m : ℕ). number bytes m 8) (at 2))
+          (ap (λ (m : ℕ). number bytes m 8) (at 3)),
     )
+
+-- the turns are at an end
+abbrev loop-of : tie.After-slice-known3 Inv-loop μ-loop → tie.At-loop Inv-loop μ-loop
+loop-of c = c .before .before .before .before .before
 
 write-rest-requires : tie.Need-write-rest-requires Inv-loop μ-loop
 write-rest-requires c κs =
-    omega (arith, c .before .before .before .before .before .pre, c .before .before .loop .inv .1)
+    let done = c .before .before in
+    omega (arith, done .before .before .before .pre, done .loop .inv .1)
 
 same-length : tie.Need-same-length Inv-loop μ-loop
-same-length c =
-    c .before .before .write-rest .kept .1 .1 .1 .1 .0 ∙ c .before .before .before .before .before .loop .inv .1
+same-length c = c .before .before .write-rest .kept .1 .1 .1 .1 .0 ∙ loop-of c .loop .inv .1
 
 returns : tie.Need-returns Inv-loop μ-loop
 returns c =
-    c .before .before .write-rest .ensures _ (sym (c .before .before .before .before .before .loop .inv .1))
-    (c .before .before .before .before .before .loop .inv .2)
+    let done = loop-of c .loop .inv in
+    c .before .before .write-rest .ensures _ (sym (done .1)) (done .2)
 
 pub write-rows-spec : {M : Type 1} → statement M
 write-rows-spec =

@@ -47,13 +47,17 @@ sub-if2 : tie.Need-sub-if2 Inv-loop μ-loop
 sub-if2 c = search needs
 
 returns-2 : tie.Need-returns-2 Inv-loop μ-loop
-returns-2 c = lead-early _ _ _ (next-lead (c .before .before .before .before)) (omega arith) (c .if2 .taken)
+returns-2 c =
+    let turn = c .before .before .before .before in
+    lead-early _ _ _ (next-lead turn) (omega arith) (c .if2 .taken)
 
 loop-less : tie.Need-loop-less Inv-loop μ-loop
 loop-less c = search needs
 
 loop-again : tie.Need-loop-again Inv-loop μ-loop
-loop-again c = (search needs, next-lead (c .before .before .before .before))
+loop-again c =
+    let turn = c .before .before .before .before in
+    (search needs, next-lead turn)
 
 returns-3 : tie.Need-returns-3 Inv-loop μ-loop
 unfolding most
