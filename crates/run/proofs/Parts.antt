@@ -22,7 +22,7 @@ use Rattle.gradecast.specs.Cast.{ofSound, cells}
 use Rattle.gradecast.proofs.Cells.{cells-at, part-built}
 use Rattle.gradecast.proofs.Sound.{of-sound}
 use Rattle.run.specs.declared.Run.{Run}
-use Rattle.run.specs.Grades.{GradesOf, Working, listFrom}
+use Rattle.run.specs.Inside.{GradesOf, Working, listFrom}
 use Rattle.run.specs.Iteration.{gradedRows, confidences, newRow, newList}
 
 module _ (n faulty : ℕ) (f : ℕ → ℕ → ℕ) (i : ℕ) (high : n ≤ 13) (below : i < n)

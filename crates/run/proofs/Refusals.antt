@@ -17,7 +17,6 @@ use Rattle.run.specs.declared.Run.{Run}
 use Rattle.run.specs.declared.Next.{Next}
 use Rattle.run.specs.Iteration.{nextRun}
 use Rattle.run.specs.State.{
-  settingRefusal,
   startRefusal,
   startRun,
   startReply,
@@ -27,6 +26,7 @@ use Rattle.run.specs.State.{
   iterateRefusal,
   iterateReply,
 }
+use Rattle.run.specs.Inside.{settingRefusal}
 
 -- what passes 4, 5 and 6
 pub record Passed (n t faulty : ℕ) : Type 0 where

@@ -21,7 +21,7 @@ use Rattle.gradecast.proofs.Cells.{length-cells}
 use Rattle.gradecast.proofs.Messages.{messages-bound}
 use Rattle.gradecast.proofs.Replies.{cast-taken, ready-passes}
 use Rattle.run.specs.declared.Run.{Run}
-use Rattle.run.specs.Grades.{GradesOf, AllCells, listFrom}
+use Rattle.run.specs.Inside.{GradesOf, AllCells, listFrom}
 use Rattle.run.specs.Iteration.{entry, newRow, newList, nextRun}
 use Rattle.run.specs.State.{tooManySent}
 use Rattle.run.proofs.Accepted.{Iterable}

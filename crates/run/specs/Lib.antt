@@ -1,4 +1,4 @@
-pub mod Grades
+pub mod Inside
 pub mod Iteration
 pub mod Legal
 pub mod State

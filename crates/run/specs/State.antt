@@ -22,11 +22,6 @@ startRow n faulty rows = entry n faulty (λ k. getD rows k 0)
 unfoldable pub zeros : Run
 zeros = record { n = 0; t = 0; faulty = 0; done = 0; sent = 0; rows = replicate 13 0; lists = replicate 13 0 }
 
--- refusals 4, 5 and 6, of n, t and the faulty set
-unfoldable pub settingRefusal : ℕ → ℕ → ℕ → ℕ
-settingRefusal n t faulty =
-    firstOf (refuse 4 (outside n) ∷ refuse 5 (tooMany n t) ∷ refuse 6 (stray n faulty) ∷ [])
-
 -- the refusals of a start: 4, 5, 6, 11, 9
 unfoldable pub startRefusal : ℕ → ℕ → ℕ → List ℕ → ℕ
 startRefusal n t faulty rows =
@@ -70,11 +65,6 @@ badPlace s k = badEntry (s .n) (s .faulty) k (getD (s .rows) k 0) (getD (s .list
 -- refusal 14: more messages than iterations done times the table's rows
 unfoldable pub tooManySent : Run → Bool
 tooManySent s = ltb (s .done * tableRows (s .n)) (s .sent)
-
--- refusals 12 and 14, of a state that has passed the tests before them
-unfoldable pub lateRefusal : Run → ℕ
-lateRefusal s =
-    firstOf (refuse 12 (ltb (s .t) (s .done)) ∷ refuse 14 (any 13 (badPlace s) || tooManySent s) ∷ [])
 
 -- the refusals of an iteration: 4, 5, 6, 9, 11, 12, 14
 unfoldable pub iterateRefusal : Run → List ℕ → ℕ

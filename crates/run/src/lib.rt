@@ -9,9 +9,8 @@ ghost use Rattle.counting.specs.Count.{any, build};
 ghost use Rattle.counting.specs.Sets.{member};
 ghost use Rattle.sizes.specs.Sizes.{sound, soundZero};
 ghost use Rattle.run.specs.Iteration.{newRow, entry};
-ghost use Rattle.run.specs.Grades.{GradesOf, AllCells, Working, listFrom};
+ghost use Rattle.run.specs.Inside.{GradesOf, AllCells, Working, listFrom, settingRefusal, lateRefusal};
 ghost use Rattle.run.specs.State.{
-  settingRefusal,
   startRow,
   startRefusal,
   startReply,
@@ -19,7 +18,6 @@ ghost use Rattle.run.specs.State.{
   badEntry,
   badPlace,
   tooManySent,
-  lateRefusal,
   iterateRefusal,
   iterateReply,
 };

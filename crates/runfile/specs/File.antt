@@ -4,7 +4,7 @@ use Prim.Native.Nat.{ℕ, zero, suc, _+_, _*_}
 use mathlib.Core.Bool.{Bool, cond, _&&_}
 use mathlib.Core.List.{List}
 use lib.Dec.{eqb}
-use lib.ListN.{getD, set}
+use lib.ListN.{getD}
 use Rattle.sizes.specs.Sizes.{largestT}
 
 -- the number in so many bytes from a place on
@@ -51,14 +51,3 @@ headingRow = rowFrom 9
 -- row k of a table
 unfoldable pub tableRow : List ℕ → ℕ → ℕ
 tableRow = rowFrom 0
-
--- a slice with four rows of 8 bytes written from place k on
-unfoldable pub fourFrom : List ℕ → ℕ → List ℕ → ℕ → List ℕ
-fourFrom bytes place rows k =
-    set
-    (set
-    (set (set rows k (number bytes place 8)) (k + 1) (number bytes (place + 8) 8))
-    (k + 2)
-    (number bytes (place + 16) 8))
-    (k + 3)
-    (number bytes (place + 24) 8)

@@ -8,7 +8,8 @@ ghost use lib.Dec.{eqb};
 ghost use lib.ListN.{length};
 ghost use Rattle.counting.specs.Count.{build, front};
 ghost use Rattle.sizes.specs.Sizes.{outside, tooMany, soundZero};
-ghost use Rattle.runfile.specs.File.{number, marked, nOf, tOf, headingBytes, rowFrom, headingRow, fourFrom};
+ghost use Rattle.runfile.specs.File.{number, marked, nOf, tOf, headingBytes, rowFrom, headingRow};
+ghost use Rattle.runfile.specs.Inside.{fourFrom};
 ghost use Rattle.runfile.specs.Reply.{
   headingRefusal,
   headingOf,

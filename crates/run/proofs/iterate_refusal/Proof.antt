@@ -10,8 +10,8 @@ use Rattle.counting.proofs.Refuse.{refused, passed}
 use Rattle.sizes.specs.Sizes.{tableRows, soundZero}
 use Rattle.sizes.proofs.Laws.{by-n-inside}
 use Rattle.run.specs.declared.Run.{Run}
-use Rattle.run.specs.State.{settingRefusal, lateRefusal}
 use Rattle.run.proofs.Refusals.{Passed, setting-passes, iterate-fails, iterate-goes-on}
+use Rattle.run.specs.Inside.{settingRefusal, lateRefusal}
 use borrow.Author.Needs.{needs}
 use Rattle.run.proofs.iterate_refusal.Statement.{statement}
 use Rattle.run.proofs.iterate_refusal.Tie as tie

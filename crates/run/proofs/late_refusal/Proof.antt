@@ -8,7 +8,8 @@ use Rattle.counting.specs.Count.{any}
 use Rattle.counting.proofs.Bools.{or-none, or-true-left, or-true-right}
 use Rattle.counting.proofs.Refuse.{refused, passed, none-left}
 use Rattle.run.specs.declared.Run.{Run}
-use Rattle.run.specs.State.{badPlace, lateRefusal}
+use Rattle.run.specs.State.{badPlace}
+use Rattle.run.specs.Inside.{lateRefusal}
 use borrow.Author.Needs.{needs}
 use Rattle.run.proofs.late_refusal.Statement.{statement}
 use Rattle.run.proofs.late_refusal.Tie as tie

@@ -9,7 +9,7 @@ use lib.ListN.{getD}
 use Rattle.counting.specs.Count.{sum}
 use Rattle.counting.specs.Sets.{member, setOf}
 use Rattle.counting.proofs.Sets.{setOf-turn, setOf-turn-lt, setOf-whole, bit-turn, bits-le}
-use Rattle.run.specs.Grades.{listFrom}
+use Rattle.run.specs.Inside.{listFrom}
 use Rattle.gradecast.proofs.Cells.{part-fits}
 use borrow.Author.Needs.{needs}
 use Rattle.run.proofs.new_list.Statement.{statement}

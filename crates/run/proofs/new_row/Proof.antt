@@ -8,7 +8,7 @@ use Rattle.tally.specs.declared.Chosen.{Chosen}
 use Rattle.tally.specs.Tally.{chosenRow}
 use Rattle.gradecast.proofs.Cells.{part-fits}
 use Rattle.run.specs.declared.Run.{Run}
-use Rattle.run.specs.Grades.{GradesOf}
+use Rattle.run.specs.Inside.{GradesOf}
 use Rattle.run.specs.Iteration.{gradedRows, confidences}
 use Rattle.run.proofs.Parts.{choice-of, new-row-old, new-row-chosen}
 use borrow.Author.Needs.{needs}

@@ -4,7 +4,7 @@ use mathlib.Core.List.{[]}
 use Rattle.counting.proofs.Refuse.{refused, passed, none-left}
 use Rattle.sizes.specs.Sizes.{sizeRefusal}
 use Rattle.sizes.proofs.Laws.{size-given, size-passed}
-use Rattle.run.specs.State.{settingRefusal}
+use Rattle.run.specs.Inside.{settingRefusal}
 use borrow.Author.Needs.{needs}
 use Rattle.run.proofs.setting_refusal.Statement.{statement}
 use Rattle.run.proofs.setting_refusal.Tie as tie

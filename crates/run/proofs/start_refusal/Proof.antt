@@ -6,8 +6,8 @@ use native.Mathlib.Omega.{arith}
 use borrow.Author.Tests.{eq-eqb, ne-eqb}
 use Rattle.counting.proofs.Bools.{not-of-true, not-of-false}
 use Rattle.counting.proofs.Refuse.{refused, passed, none-left}
-use Rattle.run.specs.State.{settingRefusal}
 use Rattle.run.proofs.Refusals.{setting-passes, start-fails, start-goes-on}
+use Rattle.run.specs.Inside.{settingRefusal}
 use borrow.Author.Needs.{needs}
 use Rattle.run.proofs.start_refusal.Statement.{statement}
 use Rattle.run.proofs.start_refusal.Tie as tie

@@ -6,7 +6,7 @@ use native.Mathlib.Nat.{le-refl}
 use native.Mathlib.Omega.{arith}
 use lib.ListN.{replicate}
 use Rattle.counting.proofs.Loops.{Filled, fill-begins, fill-turn, fill-ends}
-use Rattle.run.specs.Grades.{listFrom}
+use Rattle.run.specs.Inside.{listFrom}
 use Rattle.run.specs.Iteration.{entry}
 use borrow.Author.Needs.{needs}
 use Rattle.run.proofs.step5_lists.Statement.{statement}

@@ -2,7 +2,7 @@
 use mathlib.Core.Path.{refl}
 use native.Mathlib.Omega.{arith}
 use lib.ListN.{length-set}
-use Rattle.runfile.specs.File.{fourFrom}
+use Rattle.runfile.specs.Inside.{fourFrom}
 use borrow.Author.Needs.{needs}
 use Rattle.runfile.proofs.write_four.Statement.{statement}
 use Rattle.runfile.proofs.write_four.Tie as tie

@@ -4,7 +4,8 @@ use mathlib.Core.Path.{_≡_, refl, sym, ap, _∙_}
 use Prim.Native.Nat.{ℕ, _+_, _*_, _≤_, _-_}
 use native.Mathlib.Omega.{arith}
 use lib.ListN.{length}
-use Rattle.runfile.specs.File.{rowFrom, number, fourFrom}
+use Rattle.runfile.specs.File.{rowFrom, number}
+use Rattle.runfile.specs.Inside.{fourFrom}
 use Rattle.counting.specs.Count.{front}
 use Rattle.counting.proofs.Build.{front-none, front-four}
 use borrow.Author.Needs.{needs}
