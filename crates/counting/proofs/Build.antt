@@ -8,7 +8,7 @@ use native.Mathlib.Nat.{le-refl, not-suc-le-zero, add-assoc}
 use native.Mathlib.Numerals.{add-one}
 use native.Mathlib.Omega.{arith}
 use lib.ListN.{length, getD, take, drop, set, length-append, length-drop, drop-of-length-le, List·getD-append}
-use lib.Seq.{take-suc-set, getD-at, take-all, ext-getD, drop-cons, set-at, append-snoc, take-at}
+use lib.Seq.{getD-at, ext-getD, drop-cons, set-at, append-snoc, take-at}
 use Rattle.counting.specs.Count.{build, front}
 use Rattle.counting.proofs.Count.{lower, at-or-below}
 
@@ -37,17 +37,6 @@ pub built : (n : ℕ) (f : ℕ → ℕ) (xs : List ℕ) → length xs ≡ n → 
 built n f xs e h =
     ext-getD 0 xs (build n f) (e ∙ sym (length-build n f))
     (λ k l. h k (omega arith) ∙ sym (getD-build n f k 0 (omega arith)))
-
--- a fill of one more place, which the code counts by n + 1
-pub fill : (n : ℕ) (f : ℕ → ℕ) (xs : List ℕ) (v : ℕ) → n < length xs → take n xs ≡ build n f → v ≡ f n →
-    take (n + 1) (set xs n v) ≡ build (n + 1) f
-unfolding build
-fill n f xs v l e h =
-    rw add-one (take-suc-set xs n v l ∙ ap₂ (λ (ys : List ℕ) (y : ℕ). ys ++ (y ∷ [])) e h)
-
--- a filled list, where every place is filled
-pub filled : (n : ℕ) (f : ℕ → ℕ) (xs : List ℕ) → length xs ≡ n → take n xs ≡ build n f → xs ≡ build n f
-filled n f xs e h = sym (take-all n xs (omega arith)) ∙ h
 
 -- a list that is written at its front, one place a turn: it keeps its length, its front holds f and its rest stays
 pub front-none : (f : ℕ → ℕ) (xs : List ℕ) → xs ≡ front 0 f xs

@@ -311,9 +311,3 @@ count-rows (suc m) n p =
     (count-add (m * n) n (λ q. p (q / n) (q % n))
     ∙ ap₂ _+_ (count-rows m n p)
     (count-ext n (λ k. p ((m * n + k) / n) ((m * n + k) % n)) (p m) (λ k l. ap₂ p (digits-div m l) (digits-mod m l))))
-
--- a loop that has come to its bound has counted everything, and no more than there is
-pub counted-whole : {m n : ℕ} (p : ℕ → Bool) {c : ℕ} → m ≡ n → c ≡ count m p → (c ≡ count n p) × (c ≤ n)
-counted-whole {n = n} p {c} e h =
-    let is : c ≡ count n p = h ∙ ap (λ (k : ℕ). count k p) e in
-    (is, omega (arith, count-le n p))
