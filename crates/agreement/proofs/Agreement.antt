@@ -6,7 +6,7 @@ use mathlib.Core.Bool.{true}
 use mathlib.Core.List.{List}
 use mathlib.Core.Logic.{_⊎_, ⊎-elim}
 use mathlib.Core.Logic._⊎_.{inl, inr}
-use Prim.Native.Nat.{ℕ, zero, suc, _≤_, _<_}
+use Prim.Native.Nat.{ℕ, zero, suc, _+_, _≤_, _<_}
 use native.Mathlib.Nat.{le-refl}
 use native.Mathlib.Omega.{arith}
 use lib.ListN.{getD}
@@ -69,6 +69,10 @@ module _ (n t faulty : ℕ) (rows : List ℕ) (tables : ℕ → List ℕ) (setti
         pass9 = not-zero-rows n faulty rows (λ k b e. absurd (omega (arith, setting .none-zero k b)));
       }
 
+  -- so many iterations may be run
+  enough : iterations t ≤ t + 1
+  enough = omega arith
+
   abbrev reply : ℕ → Next
   reply = replies n t faulty rows tables
 
@@ -76,10 +80,10 @@ module _ (n t faulty : ℕ) (rows : List ℕ) (tables : ℕ → List ℕ) (setti
   state m = reply m .run
 
   stands-at : (m : ℕ) → m ≤ iterations t → Stands n t faulty m (state m)
-  stands-at = stands n t faulty rows tables starts (setting .sized)
+  stands-at = stands n t faulty rows tables (iterations t) enough starts (setting .sized)
 
   step-run : (m : ℕ) → m < iterations t → state (suc m) ≡ nextRun (state m) (tables m)
-  step-run = next-state n t faulty rows tables starts (setting .sized)
+  step-run = next-state n t faulty rows tables (iterations t) enough starts (setting .sized)
 
   start-fair : FairState (startRun n t faulty rows)
   unfolding startRun
@@ -195,7 +199,7 @@ module _ (n t faulty : ℕ) (rows : List ℕ) (tables : ℕ → List ℕ) (setti
   pub replies-keep : Demand3 n t faulty rows tables reply
   replies-keep =
       record {
-        not-refused = none-refused n t faulty rows tables starts (setting .sized);
+        not-refused = none-refused n t faulty rows tables (iterations t) enough starts (setting .sized);
         agrees = agrees;
         valid = valid;
         never-listed = never-listed;

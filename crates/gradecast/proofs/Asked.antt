@@ -45,8 +45,8 @@ pub faulty-asked : (s : Settings) (odd : ℕ) → RightSize s → faultyBoxes (s
 faulty-asked s odd size few e =
     λ lists o k l out. (
       record {
-        tolerated = size .tolerated;
-        few = few;
+        tolerated = omega (arith, size .tolerated);
+        few = omega (arith, few);
         none-listed =
             λ i j si sj.
             not-odd-listed (s .faulty) lists j

@@ -23,7 +23,7 @@ use Rattle.tally.proofs.Laws.{vote-carried, vote-none, vote-is, confidence-2, c
 use Rattle.tally.proofs.Laws.{graded-counts, graded-firm}
 use Rattle.gradecast.specs.Steps.{place1, place2, place3, sends, hears, heard1, heard2, column2, voted}
 use Rattle.gradecast.specs.Steps.{heard3, column3, confidence, gradeRow}
-use Rattle.gradecast.specs.Fair.{SoundBox, Fair, Gradecast, faultyBoxes}
+use Rattle.gradecast.specs.Fair.{SoundBox, Tolerated, FewFaulty, Fair, Gradecast}
 use Rattle.gradecast.specs.Inside.{Calm, plainConfidence}
 use Rattle.gradecast.proofs.Boxes.{sound-not-faulty, not-faulty-sound}
 use Rattle.gradecast.proofs.Grades.{positive, at-most-2, row-none, row-not-zero}
@@ -37,7 +37,7 @@ record Witness (n faulty : ℕ) (f : ℕ → ℕ) (v : ℕ) : Type 0 where
   here : f at ≡ v
 
 -- columns f and g, with at most t faulty boxes
-module _ {n t faulty : ℕ} (tolerated : 3 * t < n) (few : faultyBoxes n faulty ≤ t) where
+module _ {n t faulty : ℕ} (tolerated : Tolerated n t) (few : FewFaulty n t faulty) where
   -- what every sound box says is the vote, and has confidence 2
   vote-all : (f : ℕ → ℕ) (v : ℕ) → (v ≡ 0 → ⊥) → ((j : ℕ) → SoundBox n faulty j → f j ≡ v) → voteOf t (build n f) ≡ v
   vote-all f v z h =
@@ -131,7 +131,7 @@ module _ {n t faulty : ℕ} (tolerated : 3 * t < n) (few : faultyBoxes n faulty 
 
 -- where all is calm, for any rows
 module _ {n t faulty : ℕ} {lists : List ℕ} (calm : Calm n t faulty lists) (rows table : List ℕ) where
-  -- the document's V, X, Y, Z and the grades
+  -- V, X, Y, Z and the grades
   abbrev Vof : ℕ → ℕ → ℕ
   Vof = heard1 n faulty rows lists table
 
@@ -260,7 +260,8 @@ gradecast {n} {t} {faulty} {rows} {lists} fair table =
       sound-leader =
           λ i k si sk.
           let g = sound-graded calm rows table i k si sk in
-          (g .0 ∙ cond-false 0 2 (ne-eqb (getD rows k 0) 0 (fair .none-zero k sk)), g .1);
+          let held : getD rows k 0 ≡ 0 → ⊥ = λ e. absurd (omega (arith, e, fair .none-zero k sk)) in
+          (g .0 ∙ cond-false 0 2 (ne-eqb (getD rows k 0) 0 held), g .1);
       one-vote = votes-once calm rows table;
       one-row = counts-once calm rows table;
       firm-counts =

@@ -28,10 +28,18 @@ NoSoundListed n faulty lists =
 abbrev pub SoundRowsNotZero : ℕ → ℕ → List ℕ → Type 0
 SoundRowsNotZero n faulty rows = (k : ℕ) → SoundBox n faulty k → getD rows k 0 ≡ 0 → ⊥
 
+-- 3t is less than n
+abbrev pub Tolerated : ℕ → ℕ → Type 0
+Tolerated n t = 3 * t < n
+
+-- no more boxes are named faulty than are tolerated
+abbrev pub FewFaulty : ℕ → ℕ → ℕ → Type 0
+FewFaulty n t faulty = faultyBoxes n faulty ≤ t
+
 -- the premises of one iteration
 pub record Fair (n t faulty : ℕ) (rows lists : List ℕ) : Type 0 where
-  pub tolerated : 3 * t < n
-  pub few : faultyBoxes n faulty ≤ t
+  pub tolerated : Tolerated n t
+  pub few : FewFaulty n t faulty
   pub none-listed : NoSoundListed n faulty lists
   pub none-zero : SoundRowsNotZero n faulty rows
 

@@ -11,7 +11,7 @@ use Rattle.sizes.specs.Sizes.{tableRows, sound}
 use Rattle.tally.specs.Tally.{voteOf, confidenceOf, gradedRow}
 use Rattle.gradecast.specs.Steps.{placeFrom, sends, hears, sent1, heard1, voted, confidence, gradeRow, messages}
 use Rattle.gradecast.specs.Cast.{ofSound, cellsTo, cells}
-use Rattle.gradecast.specs.Fair.{SoundBox, faultyBoxes, NoSoundListed}
+use Rattle.gradecast.specs.Fair.{SoundBox, NoSoundListed, Tolerated, FewFaulty}
 use Rattle.gradecast.specs.declared.Settings.{Settings}
 use Rattle.gradecast.specs.declared.Hall.{Hall}
 use Rattle.gradecast.specs.declared.Seat.{Seat}
@@ -76,8 +76,8 @@ PlainHeard s lists said heard =
 
 -- no more boxes are faulty than may be, and no sound box's list holds a sound box
 pub record Calm (n t faulty : ℕ) (lists : List ℕ) : Type 0 where
-  pub tolerated : 3 * t < n
-  pub few : faultyBoxes n faulty ≤ t
+  pub tolerated : Tolerated n t
+  pub few : FewFaulty n t faulty
   pub none-listed : NoSoundListed n faulty lists
 
 -- a leader that is not asked is sound, and all is calm: so it need not be counted

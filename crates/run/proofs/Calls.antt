@@ -5,7 +5,7 @@ use mathlib.Core.Path.{_≡_, sym, ap, _∙_}
 use mathlib.Core.Bool.{Bool, true, false, cond}
 use mathlib.Core.List.{List}
 use Prim.Native.Nat.{ℕ, zero, suc, _+_, _≤_, _<_}
-use native.Mathlib.Nat.{not-suc-le-zero}
+use native.Mathlib.Nat.{le-refl, not-suc-le-zero}
 use lib.ListN.{length, getD}
 use lib.Dec.{eqb}
 use Rattle.sizes.specs.Sizes.{tableRows, Startable}
@@ -84,4 +84,4 @@ pub calls-taken : {n t faulty : ℕ} {rows : List ℕ} {tables : ℕ → List �
     Calls n t faulty rows tables reply → Startable n t faulty rows →
     ((m : ℕ) → m < t + 1 → length (tables m) ≡ tableRows n) → (m : ℕ) → m ≤ t + 1 → reply m .refusal ≡ 0
 calls-taken {n} {t} {faulty} {rows} {tables} c starts sized m l =
-    ap (λ (r : Next). r .refusal) (calls-are c m) ∙ none-refused n t faulty rows tables starts sized m l
+    ap (λ (r : Next). r .refusal) (calls-are c m) ∙ none-refused n t faulty rows tables (t + 1) (le-refl _) starts sized m l

@@ -57,28 +57,29 @@ start-run {n} {t} {faulty} {rows} a =
     cond-true (startRun n t faulty rows) zeros
     (eq-eqb (startRefusal n t faulty rows) 0 (start-accepted-is n t faulty rows a))
 
-module _ (n t faulty : ℕ) (rows : List ℕ) (tables : ℕ → List ℕ) (starts : Startable n t faulty rows)
-    (sized : (m : ℕ) → m < t + 1 → length (tables m) ≡ tableRows n) where
+-- the first iterations of it, for as many as have a table
+module _ (n t faulty : ℕ) (rows : List ℕ) (tables : ℕ → List ℕ) (last : ℕ) (most : last ≤ t + 1)
+    (starts : Startable n t faulty rows) (sized : (m : ℕ) → m < last → length (tables m) ≡ tableRows n) where
   abbrev state : ℕ → Run
   state m = after (startReply n t faulty rows) tables m .run
 
   -- the state that an iteration finds passes its tests
-  passes : (m : ℕ) → m < t + 1 → Stands n t faulty m (state m) → iterateRefusal (state m) (tables m) ≡ 0
+  passes : (m : ℕ) → m < last → Stands n t faulty m (state m) → iterateRefusal (state m) (tables m) ≡ 0
   passes m l h =
       accepted-is (state m) (tables m)
       (record {
         legal = h .legal;
         rows-of-table = sized m l ∙ ap tableRows (sym (h .same-n));
-        done-few = omega (arith, h .done-m, h .same-t);
+        done-few = omega (arith, h .done-m, h .same-t, most);
       })
 
-  goes-on : (m : ℕ) → m < t + 1 → Stands n t faulty m (state m) → state (suc m) ≡ nextRun (state m) (tables m)
+  goes-on : (m : ℕ) → m < last → Stands n t faulty m (state m) → state (suc m) ≡ nextRun (state m) (tables m)
   unfolding after iterateReply
   goes-on m l h =
       cond-true (nextRun (state m) (tables m)) (state m)
       (eq-eqb (iterateRefusal (state m) (tables m)) 0 (passes m l h))
 
-  pub stands : (m : ℕ) → m ≤ t + 1 → Stands n t faulty m (state m)
+  pub stands : (m : ℕ) → m ≤ last → Stands n t faulty m (state m)
   unfolding after
   stands zero h = subst (Stands n t faulty 0) (sym (start-run starts)) (start-stands starts)
   stands (suc m) h =
@@ -86,11 +87,11 @@ module _ (n t faulty : ℕ) (rows : List ℕ) (tables : ℕ → List ℕ) (start
       subst (Stands n t faulty (suc m)) (sym (goes-on m h before)) (next-stands (tables m) before)
 
   -- each iteration gives the next state
-  pub next-state : (m : ℕ) → m < t + 1 → state (suc m) ≡ nextRun (state m) (tables m)
+  pub next-state : (m : ℕ) → m < last → state (suc m) ≡ nextRun (state m) (tables m)
   next-state m l = goes-on m l (stands m (omega arith))
 
   -- no call is refused
-  pub none-refused : (m : ℕ) → m ≤ t + 1 → after (startReply n t faulty rows) tables m .refusal ≡ 0
+  pub none-refused : (m : ℕ) → m ≤ last → after (startReply n t faulty rows) tables m .refusal ≡ 0
   unfolding after iterateReply startReply
   none-refused zero h = start-accepted-is n t faulty rows starts
   none-refused (suc m) h = passes m h (stands m (omega arith))
