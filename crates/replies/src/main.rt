@@ -214,7 +214,7 @@ struct Head {
 
 // Reads the head of a request and its rows.
 fn take_head(bytes: &mut [u8], rows: &mut [u64]) -> Head
-    requires { ⌜ (length (now bytes) ≡ 200000) × (length (now rows) ≡ 5003) ⌝ }
+    requires { ⌜ (length (now bytes) ≡ 200000) × (length (now rows) ≡ 5001) ⌝ }
     ensures { λ r. ⌜ r .count < 256 ⌝ }
 {
     if !take(bytes, 2) {
@@ -259,7 +259,7 @@ fn print_tally(kind: u8, rows: &[u64], t: u8, text: &mut [u8]) {
 
 // A vote or a grade. Here and below: false where the request is cut short or asks for too much.
 fn answer_tally(kind: u8, bytes: &mut [u8], rows: &mut [u64], text: &mut [u8]) -> bool
-    requires { ⌜ (length (now bytes) ≡ 200000) × (length (now rows) ≡ 5003) ⌝ }
+    requires { ⌜ (length (now bytes) ≡ 200000) × (length (now rows) ≡ 5001) ⌝ }
 {
     let head = take_head(bytes, rows);
     let count = head.count;
@@ -281,7 +281,7 @@ fn print_choice(rows: &[u64], confidences: &[u8], text: &mut [u8]) {
 
 // A choice.
 fn answer_choice(bytes: &mut [u8], rows: &mut [u64], text: &mut [u8]) -> bool
-    requires { ⌜ (length (now bytes) ≡ 200000) × (length (now rows) ≡ 5003) ⌝ }
+    requires { ⌜ (length (now bytes) ≡ 200000) × (length (now rows) ≡ 5001) ⌝ }
 {
     let head = take_head(bytes, rows);
     let count = head.count;
@@ -298,7 +298,7 @@ fn answer_choice(bytes: &mut [u8], rows: &mut [u64], text: &mut [u8]) -> bool
 
 // A start.
 fn answer_start(bytes: &mut [u8], rows: &mut [u64], text: &mut [u8]) -> bool
-    requires { ⌜ (length (now bytes) ≡ 200000) × (length (now rows) ≡ 5003) ⌝ }
+    requires { ⌜ (length (now bytes) ≡ 200000) × (length (now rows) ≡ 5001) ⌝ }
 {
     if !take(bytes, 5) {
         return false;
@@ -314,25 +314,25 @@ fn answer_start(bytes: &mut [u8], rows: &mut [u64], text: &mut [u8]) -> bool
     true
 }
 
-// The table of a request: did all of it come, and how many rows.
-struct Table {
+// What follows its number in a request, rows or bytes: did all of it come, and how many.
+struct Rest {
     whole: bool,
     count: usize,
 }
 
 // Reads a table whose number of rows stands at a place of the bytes.
-fn take_table(bytes: &mut [u8], at: usize, rows: &mut [u64]) -> Table
-    requires { ⌜ (length (now bytes) ≡ 200000) × (length (now rows) ≡ 5003) × (at < 256) ⌝ }
+fn take_table(bytes: &mut [u8], at: usize, rows: &mut [u64]) -> Rest
+    requires { ⌜ (length (now bytes) ≡ 200000) × (length (now rows) ≡ 5001) × (at < 256) ⌝ }
     ensures { λ r. ⌜ r .count ≤ 5000 ⌝ }
 {
     let count = number2(bytes, at) as usize;
     if 5000 < count {
-        return Table {
+        return Rest {
             whole: false,
             count: 0,
         };
     }
-    Table {
+    Rest {
         whole: take_rows(bytes, count, rows),
         count,
     }
@@ -340,7 +340,7 @@ fn take_table(bytes: &mut [u8], at: usize, rows: &mut [u64]) -> Table
 
 // An iteration.
 fn answer_iteration(bytes: &mut [u8], rows: &mut [u64], text: &mut [u8]) -> bool
-    requires { ⌜ (length (now bytes) ≡ 200000) × (length (now rows) ≡ 5003) ⌝ }
+    requires { ⌜ (length (now bytes) ≡ 200000) × (length (now rows) ≡ 5001) ⌝ }
 {
     if !take(bytes, 145) {
         return false;
@@ -372,7 +372,7 @@ fn print_heading(bytes: &[u8], numbers: &mut [u64], text: &mut [u8])
 
 // The heading reader.
 fn answer_heading(bytes: &mut [u8], numbers: &mut [u64], text: &mut [u8]) -> bool
-    requires { ⌜ (length (now bytes) ≡ 200000) × (length (now numbers) ≡ 5003) ⌝ }
+    requires { ⌜ (length (now bytes) ≡ 200000) × (length (now numbers) ≡ 5001) ⌝ }
 {
     if !take(bytes, 2) {
         return false;
@@ -425,7 +425,7 @@ fn print_table(n: u8, bytes: &[u8], numbers: &mut [u64], text: &mut [u8])
 
 // The table reader.
 fn answer_table(bytes: &mut [u8], numbers: &mut [u64], text: &mut [u8]) -> bool
-    requires { ⌜ (length (now bytes) ≡ 200000) × (length (now numbers) ≡ 5003) ⌝ }
+    requires { ⌜ (length (now bytes) ≡ 200000) × (length (now numbers) ≡ 5001) ⌝ }
 {
     if !take(bytes, 5) {
         return false;
@@ -451,7 +451,7 @@ fn print_part(bytes: &[u8], from: usize, count: usize, numbers: &mut [u64], text
 
 // The part reader.
 fn answer_part(bytes: &mut [u8], numbers: &mut [u64], text: &mut [u8]) -> bool
-    requires { ⌜ (length (now bytes) ≡ 200000) × (length (now numbers) ≡ 5003) ⌝ }
+    requires { ⌜ (length (now bytes) ≡ 200000) × (length (now numbers) ≡ 5001) ⌝ }
 {
     if !take(bytes, 20) {
         return false;
@@ -564,7 +564,7 @@ fn print_cast(text: &mut [u8], cast: Cast) {
 
 // Steps 1 to 4.
 fn answer_steps(bytes: &mut [u8], rows: &mut [u64], text: &mut [u8]) -> bool
-    requires { ⌜ (length (now bytes) ≡ 200000) × (length (now rows) ≡ 5003) ⌝ }
+    requires { ⌜ (length (now bytes) ≡ 200000) × (length (now rows) ≡ 5001) ⌝ }
 {
     if !take(bytes, 143) {
         return false;
@@ -589,7 +589,7 @@ struct Line {
 
 // Reads what a line is asked with.
 fn take_line(bytes: &mut [u8], numbers: &mut [u64]) -> Line
-    requires { ⌜ (length (now bytes) ≡ 200000) × (length (now numbers) ≡ 5003) ⌝ }
+    requires { ⌜ (length (now bytes) ≡ 200000) × (length (now numbers) ≡ 5001) ⌝ }
     ensures { λ r. ⌜ (r .room ≤ 5000) × (r .size < 256) × (r .count < 256) ⌝ }
 {
     let none = Line {
@@ -620,10 +620,9 @@ fn take_line(bytes: &mut [u8], numbers: &mut [u64]) -> Line
 }
 
 // Prints one line's reply, with the lent slice behind it.
-fn print_written(text: &mut [u8], lent: &mut [u8], word: &[u8], numbers: &[u64])
+fn print_written(lent: &mut [u8], word: &[u8], numbers: &[u64], text: &mut [u8])
     requires { ⌜ length (now lent) ≤ 5000 ⌝ }
 {
-    count_up_bytes(lent);
     let written = lines::write_line(lent, word, numbers);
     print_bytes(
         text,
@@ -633,9 +632,28 @@ fn print_written(text: &mut [u8], lent: &mut [u8], word: &[u8], numbers: &[u64])
     );
 }
 
-// One line.
-fn answer_line(bytes: &mut [u8], numbers: &mut [u64], text: &mut [u8]) -> bool
-    requires { ⌜ (length (now bytes) ≡ 200000) × (length (now numbers) ≡ 5003) ⌝ }
+// Prints the reply of one line from a place on, with the lent slice behind it.
+fn print_put(lent: &mut [u8], at: usize, word: &[u8], numbers: &[u64], text: &mut [u8])
+    requires { ⌜ length (now lent) ≤ 5000 ⌝ }
+{
+    let end = lines::put_line(lent, at, word, numbers);
+    print_bytes(text, b"put", &[end as u64], lent);
+}
+
+// Prints the reply of one line, from a place on or not.
+fn print_either(kind: u8, lent: &mut [u8], at: usize, word: &[u8], numbers: &[u64], text: &mut [u8])
+    requires { ⌜ length (now lent) ≤ 5000 ⌝ }
+{
+    count_up_bytes(lent);
+    match kind {
+        15 => print_written(lent, word, numbers, text),
+        _ => print_put(lent, at, word, numbers, text),
+    }
+}
+
+// One line, from a place on or not.
+fn answer_line(kind: u8, at: usize, bytes: &mut [u8], numbers: &mut [u64], text: &mut [u8]) -> bool
+    requires { ⌜ (length (now bytes) ≡ 200000) × (length (now numbers) ≡ 5001) ⌝ }
 {
     let mut lent = [0u8; 5000];
     let line = take_line(bytes, numbers);
@@ -643,75 +661,48 @@ fn answer_line(bytes: &mut [u8], numbers: &mut [u64], text: &mut [u8]) -> bool
     let size = line.size;
     let count = line.count;
     if line.whole {
-        print_written(
-            text,
+        print_either(
+            kind,
             &mut lent[0..room],
+            at,
             &bytes[0..size],
             &numbers[0..count],
+            text,
         );
     }
     line.whole
 }
 
-// Prints the reply of one line from a place on, with the lent slice behind it.
-fn print_put(text: &mut [u8], lent: &mut [u8], at: usize, word: &[u8], numbers: &[u64])
-    requires { ⌜ length (now lent) ≤ 5000 ⌝ }
-{
-    count_up_bytes(lent);
-    let end = lines::put_line(lent, at, word, numbers);
-    print_bytes(text, b"put", &[end as u64], lent);
-}
-
 // One line from a place on.
-fn answer_put(bytes: &mut [u8], numbers: &mut [u64], text: &mut [u8]) -> bool
-    requires { ⌜ (length (now bytes) ≡ 200000) × (length (now numbers) ≡ 5003) ⌝ }
+fn answer_put(kind: u8, bytes: &mut [u8], numbers: &mut [u64], text: &mut [u8]) -> bool
+    requires { ⌜ (length (now bytes) ≡ 200000) × (length (now numbers) ≡ 5001) ⌝ }
 {
     if !take(bytes, 8) {
         return false;
     }
     let at = place(bytes, 0);
-    let mut lent = [0u8; 5000];
-    let line = take_line(bytes, numbers);
-    let room = line.room;
-    let size = line.size;
-    let count = line.count;
-    if line.whole {
-        print_put(
-            text,
-            &mut lent[0..room],
-            at,
-            &bytes[0..size],
-            &numbers[0..count],
-        );
-    }
-    line.whole
-}
-
-// The bytes of a run file: did all of them come, and how many.
-struct File {
-    whole: bool,
-    size: usize,
+    answer_line(kind, at, bytes, numbers, text)
 }
 
 // Reads the bytes of a run file, with their number before them.
-fn take_file(bytes: &mut [u8]) -> File
+fn take_file(bytes: &mut [u8]) -> Rest
     requires { ⌜ length (now bytes) ≡ 200000 ⌝ }
-    ensures { λ r. ⌜ r .size ≤ 200000 ⌝ }
+    ensures { λ r. ⌜ r .count ≤ 200000 ⌝ }
 {
-    let none = File {
+    let none = Rest {
         whole: false,
-        size: 0,
+        count: 0,
     };
     if !take(bytes, 4) {
         return none;
     }
-    let size = number(bytes, 0, 4) as usize;
-    if 200000 < size {
+    let count = number(bytes, 0, 4) as usize;
+    if 200000 < count {
         return none;
     }
-    File {
-        whole: take(bytes, size),
-        size,
+    Rest {
+        whole: take(bytes, count),
+        count,
     }
 }
 
@@ -738,9 +729,9 @@ fn answer_listing(bytes: &mut [u8], text: &mut [u8]) -> bool
         return false;
     }
     let file = take_file(bytes);
-    let size = file.size;
+    let count = file.count;
     if file.whole {
-        print_listing(text, &mut lent[0..room], &bytes[0..size]);
+        print_listing(text, &mut lent[0..room], &bytes[0..count]);
     }
     file.whole
 }
@@ -750,9 +741,9 @@ fn answer_outcome(bytes: &mut [u8], text: &mut [u8]) -> bool
     requires { ⌜ length (now bytes) ≡ 200000 ⌝ }
 {
     let file = take_file(bytes);
-    let size = file.size;
+    let count = file.count;
     if file.whole {
-        print_state(text, b"outcome", listing::outcome(&bytes[0..size]));
+        print_state(text, b"outcome", listing::outcome(&bytes[0..count]));
     }
     file.whole
 }
@@ -769,7 +760,7 @@ fn answer_none(text: &mut [u8]) -> bool {
 
 // The next request. False where there is none, or none that can be answered.
 fn answer(bytes: &mut [u8], numbers: &mut [u64], text: &mut [u8]) -> bool
-    requires { ⌜ (length (now bytes) ≡ 200000) × (length (now numbers) ≡ 5003) ⌝ }
+    requires { ⌜ (length (now bytes) ≡ 200000) × (length (now numbers) ≡ 5001) ⌝ }
 {
     if !take(bytes, 1) {
         return false;
@@ -784,8 +775,8 @@ fn answer(bytes: &mut [u8], numbers: &mut [u64], text: &mut [u8]) -> bool
         7 => answer_table(bytes, numbers, text),
         8..=13 => answer_sizes(kind, bytes, text),
         14 => answer_steps(bytes, numbers, text),
-        15 => answer_line(bytes, numbers, text),
-        16 => answer_put(bytes, numbers, text),
+        15 => answer_line(kind, 0, bytes, numbers, text),
+        16 => answer_put(kind, bytes, numbers, text),
         17 => answer_part(bytes, numbers, text),
         18 => answer_listing(bytes, text),
         19 => answer_outcome(bytes, text),
@@ -797,7 +788,7 @@ fn answer(bytes: &mut [u8], numbers: &mut [u64], text: &mut [u8]) -> bool
 // A proved loop has to end, and nothing says that a stream does: it counts its turns down from a number that no run
 // uses up.
 fn answer_all(bytes: &mut [u8], numbers: &mut [u64], text: &mut [u8])
-    requires { ⌜ (length (now bytes) ≡ 200000) × (length (now numbers) ≡ 5003) ⌝ }
+    requires { ⌜ (length (now bytes) ≡ 200000) × (length (now numbers) ≡ 5001) ⌝ }
 {
     let mut turns = u64::MAX;
     while turns > 0 && answer(bytes, numbers, text) {
@@ -805,11 +796,10 @@ fn answer_all(bytes: &mut [u8], numbers: &mut [u64], text: &mut [u8])
     }
 }
 
-// The most numbers are a listing's: three and 5,000 places. The longest line is a table's: 5,001 numbers of at most 20
-// digits.
+// The longest line is a table's: 5001 numbers of at most 20 digits.
 fn main() {
     let mut bytes = [0u8; 200000];
-    let mut numbers = [0u64; 5003];
+    let mut numbers = [0u64; 5001];
     let mut text = [0u8; 105027];
     answer_all(&mut bytes, &mut numbers, &mut text);
 }
