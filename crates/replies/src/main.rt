@@ -112,14 +112,10 @@ fn count_up_bytes(bytes: &mut [u8]) {
 
 // Thirteen rows from a place on.
 fn box_rows(bytes: &[u8], at: usize) -> [u64; 13]
-    requires { ⌜ at + 104 ≤ length (now bytes) ⌝ }
+    requires { ⌜ (at + 104 ≤ length (now bytes)) × (at < 256) ⌝ }
 {
     let mut rows = [0u64; 13];
-    let mut i: usize = 0;
-    while i < 13 {
-        rows[i] = number(bytes, at + 8 * i, 8);
-        i += 1;
-    }
+    put_rows(bytes, at, 13, &mut rows);
     rows
 }
 
@@ -190,7 +186,7 @@ fn print_rows(text: &mut [u8], word: &[u8], reply: &[u64], numbers: &mut [u64])
     inout::print_line(text, word, numbers);
 }
 
-// Prints the numbers of a reply with the places of the lent slice behind them.
+// Prints the numbers of a reply with the places of the lent slice behind them: at most three and 5000.
 fn print_bytes(text: &mut [u8], word: &[u8], reply: &[u64], lent: &[u8])
     requires { ⌜ (length (now reply) ≤ 3) × (length (now lent) ≤ 5000) ⌝ }
 {
@@ -651,7 +647,7 @@ fn print_either(kind: u8, lent: &mut [u8], at: usize, word: &[u8], numbers: &[u6
     }
 }
 
-// One line, from a place on or not.
+// One line, from a place on or not. Where the request has no place, the place is not looked at.
 fn answer_line(kind: u8, at: usize, bytes: &mut [u8], numbers: &mut [u64], text: &mut [u8]) -> bool
     requires { ⌜ (length (now bytes) ≡ 200000) × (length (now numbers) ≡ 5001) ⌝ }
 {
@@ -673,7 +669,7 @@ fn answer_line(kind: u8, at: usize, bytes: &mut [u8], numbers: &mut [u64], text:
     line.whole
 }
 
-// One line from a place on.
+// One line from a place on, which stands before what any line is asked with.
 fn answer_put(kind: u8, bytes: &mut [u8], numbers: &mut [u64], text: &mut [u8]) -> bool
     requires { ⌜ (length (now bytes) ≡ 200000) × (length (now numbers) ≡ 5001) ⌝ }
 {
