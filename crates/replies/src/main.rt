@@ -1,5 +1,7 @@
 // Answers the requests of docs/REQUESTS.md: calls each public function of the library on any numbers and any bytes,
-// and prints every field of its reply and every place of what was lent to it. Each line goes out in one write.
+// and prints every field of its reply and every place of what was lent to it. `inout::fill` and `inout::print_line`
+// have no requests of their own: all that is read and all that is printed goes through them.
+use gradecast::Cast;
 use run::Next;
 use run::Run;
 ghost use mathlib.Core.Path.{_≡_};
@@ -25,6 +27,14 @@ fn small(byte: u8) -> usize
     byte as usize
 }
 
+// Yes as 1, no as 0.
+fn truth(yes: bool) -> u64 {
+    if yes {
+        return 1;
+    }
+    0
+}
+
 // The number in so many bytes from a place on, most significant byte first. The last 8 bytes count.
 fn number(bytes: &[u8], at: usize, size: usize) -> u64
     requires { ⌜ at + size ≤ length (now bytes) ⌝ }
@@ -45,11 +55,30 @@ fn number2(bytes: &[u8], at: usize) -> u16
     (number(bytes, at, 2) % 65536) as u16
 }
 
+// The number in eight bytes, as a length or a place.
+fn place(bytes: &[u8], at: usize) -> usize
+    requires { ⌜ at + 8 ≤ length (now bytes) ⌝ }
+{
+    number(bytes, at, 8) as usize
+}
+
 // Reads so many bytes to the front of the slice. Did all of them come?
 fn take(bytes: &mut [u8], size: usize) -> bool
     requires { ⌜ size ≤ length (now bytes) ⌝ }
 {
     inout::fill(bytes, 0, size) == size
+}
+
+// Puts so many rows, whose bytes begin at a place, to the front of the slice.
+fn put_rows(bytes: &[u8], at: usize, count: usize, rows: &mut [u64])
+    requires { ⌜ (at + 8 * count ≤ length (now bytes)) × (count ≤ length (now rows)) ⌝ }
+    requires { ⌜ (at < 256) × (count ≤ 5000) ⌝ }
+{
+    let mut k: usize = 0;
+    while k < count {
+        rows[k] = number(bytes, at + 8 * k, 8);
+        k += 1;
+    }
 }
 
 // Reads so many rows to the front of the slice, by way of the bytes. Did all of them come?
@@ -59,11 +88,7 @@ fn take_rows(bytes: &mut [u8], count: usize, rows: &mut [u64]) -> bool
     if !take(bytes, 8 * count) {
         return false;
     }
-    let mut k: usize = 0;
-    while k < count {
-        rows[k] = number(bytes, 8 * k, 8);
-        k += 1;
-    }
+    put_rows(bytes, 0, count, rows);
     true
 }
 
@@ -76,27 +101,32 @@ fn count_up(rows: &mut [u64]) {
     }
 }
 
-// The thirteen rows of a state.
-fn state_rows(bytes: &[u8]) -> [u64; 13]
-    requires { ⌜ 143 ≤ length (now bytes) ⌝ }
+// Puts 1, 2, 3 and so on into the slice of bytes, with 0 behind 255.
+fn count_up_bytes(bytes: &mut [u8]) {
+    let mut k: usize = 0;
+    while k < bytes.len() {
+        bytes[k] = ((k + 1) % 256) as u8;
+        k += 1;
+    }
+}
+
+// Thirteen rows from a place on.
+fn box_rows(bytes: &[u8], at: usize) -> [u64; 13]
+    requires { ⌜ (at + 104 ≤ length (now bytes)) × (at < 256) ⌝ }
 {
     let mut rows = [0u64; 13];
-    let mut i: usize = 0;
-    while i < 13 {
-        rows[i] = number(bytes, 13 + 8 * i, 8);
-        i += 1;
-    }
+    put_rows(bytes, at, 13, &mut rows);
     rows
 }
 
-// The thirteen lists of a state.
-fn state_lists(bytes: &[u8]) -> [u16; 13]
-    requires { ⌜ 143 ≤ length (now bytes) ⌝ }
+// Thirteen lists from a place on.
+fn box_lists(bytes: &[u8], at: usize) -> [u16; 13]
+    requires { ⌜ at + 26 ≤ length (now bytes) ⌝ }
 {
     let mut lists = [0u16; 13];
     let mut i: usize = 0;
     while i < 13 {
-        lists[i] = number2(bytes, 117 + 2 * i);
+        lists[i] = number2(bytes, at + 2 * i);
         i += 1;
     }
     lists
@@ -106,8 +136,8 @@ fn state_lists(bytes: &[u8]) -> [u16; 13]
 fn state(bytes: &[u8]) -> Run
     requires { ⌜ 143 ≤ length (now bytes) ⌝ }
 {
-    let rows = state_rows(bytes);
-    let lists = state_lists(bytes);
+    let rows = box_rows(bytes, 13);
+    let lists = box_lists(bytes, 117);
     Run {
         n: bytes[0],
         t: bytes[1],
@@ -119,8 +149,8 @@ fn state(bytes: &[u8]) -> Run
     }
 }
 
-// Prints the refusal's number and the state.
-fn print_state(text: &mut [u8], word: &[u8], next: Next) {
+// The refusal's number and the numbers of the state.
+fn state_numbers(next: Next) -> [u64; 32] {
     let run = next.run;
     let mut numbers = [0u64; 32];
     numbers[0] = wide(next.refusal);
@@ -135,7 +165,40 @@ fn print_state(text: &mut [u8], word: &[u8], next: Next) {
         numbers[19 + i] = wide2(run.lists[i]);
         i += 1;
     }
+    numbers
+}
+
+// Prints the refusal's number and the state.
+fn print_state(text: &mut [u8], word: &[u8], next: Next) {
+    let numbers = state_numbers(next);
     inout::print_line(text, word, &numbers);
+}
+
+// Prints the numbers of a reply with the lent slice, which stands behind their places already.
+fn print_rows(text: &mut [u8], word: &[u8], reply: &[u64], numbers: &mut [u64])
+    requires { ⌜ length (now reply) ≤ length (now numbers) ⌝ }
+{
+    let mut k: usize = 0;
+    while k < reply.len() {
+        numbers[k] = reply[k];
+        k += 1;
+    }
+    inout::print_line(text, word, numbers);
+}
+
+// Prints the numbers of a reply with the places of the lent slice behind them: at most three and 5000.
+fn print_bytes(text: &mut [u8], word: &[u8], reply: &[u64], lent: &[u8])
+    requires { ⌜ (length (now reply) ≤ 3) × (length (now lent) ≤ 5000) ⌝ }
+{
+    let mut numbers = [0u64; 5003];
+    let at = reply.len();
+    let mut k: usize = 0;
+    while k < lent.len() {
+        numbers[at + k] = wide(lent[k]);
+        k += 1;
+    }
+    let end = at + lent.len();
+    print_rows(text, word, reply, &mut numbers[0..end]);
 }
 
 // The head of a vote, a grade or a choice: did all of it come, how many rows, and the byte behind their number.
@@ -147,7 +210,7 @@ struct Head {
 
 // Reads the head of a request and its rows.
 fn take_head(bytes: &mut [u8], rows: &mut [u64]) -> Head
-    requires { ⌜ (length (now bytes) ≡ 65536) × (length (now rows) ≡ 5001) ⌝ }
+    requires { ⌜ (length (now bytes) ≡ 200000) × (length (now rows) ≡ 5001) ⌝ }
     ensures { λ r. ⌜ r .count < 256 ⌝ }
 {
     if !take(bytes, 2) {
@@ -192,7 +255,7 @@ fn print_tally(kind: u8, rows: &[u64], t: u8, text: &mut [u8]) {
 
 // A vote or a grade. Here and below: false where the request is cut short or asks for too much.
 fn answer_tally(kind: u8, bytes: &mut [u8], rows: &mut [u64], text: &mut [u8]) -> bool
-    requires { ⌜ (length (now bytes) ≡ 65536) × (length (now rows) ≡ 5001) ⌝ }
+    requires { ⌜ (length (now bytes) ≡ 200000) × (length (now rows) ≡ 5001) ⌝ }
 {
     let head = take_head(bytes, rows);
     let count = head.count;
@@ -214,7 +277,7 @@ fn print_choice(rows: &[u64], confidences: &[u8], text: &mut [u8]) {
 
 // A choice.
 fn answer_choice(bytes: &mut [u8], rows: &mut [u64], text: &mut [u8]) -> bool
-    requires { ⌜ (length (now bytes) ≡ 65536) × (length (now rows) ≡ 5001) ⌝ }
+    requires { ⌜ (length (now bytes) ≡ 200000) × (length (now rows) ≡ 5001) ⌝ }
 {
     let head = take_head(bytes, rows);
     let count = head.count;
@@ -231,7 +294,7 @@ fn answer_choice(bytes: &mut [u8], rows: &mut [u64], text: &mut [u8]) -> bool
 
 // A start.
 fn answer_start(bytes: &mut [u8], rows: &mut [u64], text: &mut [u8]) -> bool
-    requires { ⌜ (length (now bytes) ≡ 65536) × (length (now rows) ≡ 5001) ⌝ }
+    requires { ⌜ (length (now bytes) ≡ 200000) × (length (now rows) ≡ 5001) ⌝ }
 {
     if !take(bytes, 5) {
         return false;
@@ -247,35 +310,52 @@ fn answer_start(bytes: &mut [u8], rows: &mut [u64], text: &mut [u8]) -> bool
     true
 }
 
+// What follows its number in a request, rows or bytes: did all of it come, and how many.
+struct Rest {
+    whole: bool,
+    count: usize,
+}
+
+// Reads a table whose number of rows stands at a place of the bytes.
+fn take_table(bytes: &mut [u8], at: usize, rows: &mut [u64]) -> Rest
+    requires { ⌜ (length (now bytes) ≡ 200000) × (length (now rows) ≡ 5001) × (at < 256) ⌝ }
+    ensures { λ r. ⌜ r .count ≤ 5000 ⌝ }
+{
+    let count = number2(bytes, at) as usize;
+    if 5000 < count {
+        return Rest {
+            whole: false,
+            count: 0,
+        };
+    }
+    Rest {
+        whole: take_rows(bytes, count, rows),
+        count,
+    }
+}
+
 // An iteration.
 fn answer_iteration(bytes: &mut [u8], rows: &mut [u64], text: &mut [u8]) -> bool
-    requires { ⌜ (length (now bytes) ≡ 65536) × (length (now rows) ≡ 5001) ⌝ }
+    requires { ⌜ (length (now bytes) ≡ 200000) × (length (now rows) ≡ 5001) ⌝ }
 {
     if !take(bytes, 145) {
         return false;
     }
     let run = state(bytes);
-    let count = number2(bytes, 143) as usize;
-    if 5000 < count {
-        return false;
+    let table = take_table(bytes, 143, rows);
+    let count = table.count;
+    if table.whole {
+        print_state(text, b"iteration", run.iterate(&rows[0..count]));
     }
-    if !take_rows(bytes, count, rows) {
-        return false;
-    }
-    print_state(text, b"iteration", run.iterate(&rows[0..count]));
-    true
+    table.whole
 }
 
-// The heading reader over a lent slice that holds 1, 2, 3 and so on.
-fn lend_heading(bytes: &[u8], lent: &mut [u64]) -> runfile::Heading {
-    count_up(lent);
-    runfile::read_heading(bytes, lent)
-}
-
-// Puts the heading reader's reply at the front of the numbers.
-fn put_heading(numbers: &mut [u64], heading: runfile::Heading)
+// Prints the heading reader's reply, with the lent slice behind its five numbers.
+fn print_heading(bytes: &[u8], numbers: &mut [u64], text: &mut [u8])
     requires { ⌜ 5 ≤ length (now numbers) ⌝ }
 {
+    count_up(&mut numbers[5..]);
+    let heading = runfile::read_heading(bytes, &mut numbers[5..]);
     let reply = [
         wide(heading.refusal),
         wide2(heading.version),
@@ -283,25 +363,12 @@ fn put_heading(numbers: &mut [u64], heading: runfile::Heading)
         wide(heading.t),
         wide2(heading.faulty),
     ];
-    let mut k: usize = 0;
-    while k < 5 {
-        numbers[k] = reply[k];
-        k += 1;
-    }
-}
-
-// Prints the heading reader's reply, with the lent slice behind its five numbers.
-fn print_heading(bytes: &[u8], numbers: &mut [u64], text: &mut [u8])
-    requires { ⌜ 5 ≤ length (now numbers) ⌝ }
-{
-    let heading = lend_heading(bytes, &mut numbers[5..]);
-    put_heading(numbers, heading);
-    inout::print_line(text, b"heading", numbers);
+    print_rows(text, b"heading", &reply, numbers);
 }
 
 // The heading reader.
 fn answer_heading(bytes: &mut [u8], numbers: &mut [u64], text: &mut [u8]) -> bool
-    requires { ⌜ (length (now bytes) ≡ 65536) × (length (now numbers) ≡ 5001) ⌝ }
+    requires { ⌜ (length (now bytes) ≡ 200000) × (length (now numbers) ≡ 5001) ⌝ }
 {
     if !take(bytes, 2) {
         return false;
@@ -315,44 +382,381 @@ fn answer_heading(bytes: &mut [u8], numbers: &mut [u64], text: &mut [u8]) -> boo
     true
 }
 
-// The table reader over a lent slice that holds 1, 2, 3 and so on.
-fn lend_table(n: u8, bytes: &[u8], lent: &mut [u64]) -> u8 {
-    count_up(lent);
-    runfile::read_table(n, bytes, lent)
+// The bytes for a reader: did all of them come, how many, and the length of the slice to lend.
+struct Reading {
+    whole: bool,
+    size: usize,
+    room: usize,
+}
+
+// Reads the bytes for a reader. Their number stands at a place of the bytes, and the length of the slice behind it.
+fn take_reading(bytes: &mut [u8], at: usize) -> Reading
+    requires { ⌜ (length (now bytes) ≡ 200000) × (at < 256) ⌝ }
+    ensures { λ r. ⌜ (r .size < 65536) × (r .room ≤ 5000) ⌝ }
+{
+    let size = number2(bytes, at) as usize;
+    let room = number2(bytes, at + 2) as usize;
+    if 5000 < room {
+        return Reading {
+            whole: false,
+            size: 0,
+            room: 0,
+        };
+    }
+    Reading {
+        whole: take(bytes, size),
+        size,
+        room,
+    }
 }
 
 // Prints the table reader's reply, with the lent slice behind its number.
 fn print_table(n: u8, bytes: &[u8], numbers: &mut [u64], text: &mut [u8])
     requires { ⌜ 1 ≤ length (now numbers) ⌝ }
 {
-    let refusal = lend_table(n, bytes, &mut numbers[1..]);
-    numbers[0] = wide(refusal);
-    inout::print_line(text, b"table", numbers);
+    count_up(&mut numbers[1..]);
+    let refusal = runfile::read_table(n, bytes, &mut numbers[1..]);
+    print_rows(text, b"table", &[wide(refusal)], numbers);
 }
 
 // The table reader.
 fn answer_table(bytes: &mut [u8], numbers: &mut [u64], text: &mut [u8]) -> bool
-    requires { ⌜ (length (now bytes) ≡ 65536) × (length (now numbers) ≡ 5001) ⌝ }
+    requires { ⌜ (length (now bytes) ≡ 200000) × (length (now numbers) ≡ 5001) ⌝ }
 {
     if !take(bytes, 5) {
         return false;
     }
     let n = bytes[0];
-    let size = number2(bytes, 1) as usize;
-    let room = number2(bytes, 3) as usize;
+    let reading = take_reading(bytes, 1);
+    let size = reading.size;
+    let end = 1 + reading.room;
+    if reading.whole {
+        print_table(n, &bytes[0..size], &mut numbers[0..end], text);
+    }
+    reading.whole
+}
+
+// Prints the part reader's reply, with the lent slice behind its number.
+fn print_part(bytes: &[u8], from: usize, count: usize, numbers: &mut [u64], text: &mut [u8])
+    requires { ⌜ 1 ≤ length (now numbers) ⌝ }
+{
+    count_up(&mut numbers[1..]);
+    let refusal = runfile::read_part(bytes, from, count, &mut numbers[1..]);
+    print_rows(text, b"part", &[wide(refusal)], numbers);
+}
+
+// The part reader.
+fn answer_part(bytes: &mut [u8], numbers: &mut [u64], text: &mut [u8]) -> bool
+    requires { ⌜ (length (now bytes) ≡ 200000) × (length (now numbers) ≡ 5001) ⌝ }
+{
+    if !take(bytes, 20) {
+        return false;
+    }
+    let from = place(bytes, 0);
+    let count = place(bytes, 8);
+    let reading = take_reading(bytes, 16);
+    let size = reading.size;
+    let end = 1 + reading.room;
+    if reading.whole {
+        print_part(&bytes[0..size], from, count, &mut numbers[0..end], text);
+    }
+    reading.whole
+}
+
+// How many bytes follow the kinds 8 to 13.
+fn sizes_bytes(kind: u8) -> usize
+    ensures { λ r. ⌜ r ≤ 18 ⌝ }
+{
+    match kind {
+        8..=9 => 1,
+        10 => 9,
+        11 => 10,
+        12 => 3,
+        _ => 18,
+    }
+}
+
+// The test of a sound zero.
+fn sound_zero(bytes: &[u8]) -> u64
+    requires { ⌜ 18 ≤ length (now bytes) ⌝ }
+{
+    truth(sizes::is_sound_zero(number2(bytes, 0), place(bytes, 2), number(bytes, 10, 8)))
+}
+
+// The table's numbers and the tests of sizes and sets: kinds 8 to 13, whose replies are one number.
+fn answer_sizes(kind: u8, bytes: &mut [u8], text: &mut [u8]) -> bool
+    requires { ⌜ length (now bytes) ≡ 200000 ⌝ }
+{
+    if !take(bytes, sizes_bytes(kind)) {
+        return false;
+    }
+    match kind {
+        8 => inout::print_line(text, b"largest", &[wide(sizes::largest_t(bytes[0]))]),
+        9 => inout::print_line(text, b"rows", &[sizes::table_rows(bytes[0]) as u64]),
+        10 => inout::print_line(
+            text,
+            b"sizes",
+            &[wide(sizes::size_refusal(place(bytes, 0), bytes[8]))],
+        ),
+        11 => inout::print_line(
+            text,
+            b"member",
+            &[truth(sizes::is_member(number2(bytes, 0), place(bytes, 2)))],
+        ),
+        12 => inout::print_line(
+            text,
+            b"stray",
+            &[truth(sizes::is_stray(bytes[0], number2(bytes, 1)))],
+        ),
+        _ => inout::print_line(text, b"zero", &[sound_zero(bytes)]),
+    }
+    true
+}
+
+// What steps 1 to 4 are asked with, but for the table.
+struct Asked {
+    n: usize,
+    t: u8,
+    faulty: u16,
+    rows: [u64; 13],
+    lists: [u16; 13],
+}
+
+// What the first 141 bytes ask of steps 1 to 4.
+fn steps_asked(bytes: &[u8]) -> Asked
+    requires { ⌜ 141 ≤ length (now bytes) ⌝ }
+{
+    let rows = box_rows(bytes, 11);
+    let lists = box_lists(bytes, 115);
+    Asked {
+        n: place(bytes, 0),
+        t: bytes[8],
+        faulty: number2(bytes, 9),
+        rows,
+        lists,
+    }
+}
+
+// What steps 1 to 4 give.
+fn cast(asked: Asked, table: &[u64]) -> Cast {
+    let rows = asked.rows;
+    let lists = asked.lists;
+    gradecast::steps(asked.n, asked.t, asked.faulty, &rows, &lists, table)
+}
+
+// Prints what steps 1 to 4 give.
+fn print_cast(text: &mut [u8], cast: Cast) {
+    let mut numbers = [0u64; 340];
+    numbers[0] = wide(cast.refusal);
+    numbers[1] = cast.sent;
+    let mut k: usize = 0;
+    while k < 169 {
+        numbers[2 + k] = cast.rows[k];
+        numbers[171 + k] = wide(cast.confidences[k]);
+        k += 1;
+    }
+    inout::print_line(text, b"steps", &numbers);
+}
+
+// Steps 1 to 4.
+fn answer_steps(bytes: &mut [u8], rows: &mut [u64], text: &mut [u8]) -> bool
+    requires { ⌜ (length (now bytes) ≡ 200000) × (length (now rows) ≡ 5001) ⌝ }
+{
+    if !take(bytes, 143) {
+        return false;
+    }
+    let asked = steps_asked(bytes);
+    let table = take_table(bytes, 141, rows);
+    let count = table.count;
+    if table.whole {
+        print_cast(text, cast(asked, &rows[0..count]));
+    }
+    table.whole
+}
+
+// What a line is asked with: did all of it come, the length of the slice to lend, the bytes of the word, which stands
+// at the front of the bytes, and how many numbers, which stand at the front of the numbers.
+struct Line {
+    whole: bool,
+    room: usize,
+    size: usize,
+    count: usize,
+}
+
+// Reads what a line is asked with.
+fn take_line(bytes: &mut [u8], numbers: &mut [u64]) -> Line
+    requires { ⌜ (length (now bytes) ≡ 200000) × (length (now numbers) ≡ 5001) ⌝ }
+    ensures { λ r. ⌜ (r .room ≤ 5000) × (r .size < 256) × (r .count < 256) ⌝ }
+{
+    let none = Line {
+        whole: false,
+        room: 0,
+        size: 0,
+        count: 0,
+    };
+    if !take(bytes, 4) {
+        return none;
+    }
+    let room = number2(bytes, 0) as usize;
+    let size = small(bytes[2]);
+    let count = small(bytes[3]);
+    if 5000 < room {
+        return none;
+    }
+    if !take(bytes, size + 8 * count) {
+        return none;
+    }
+    put_rows(bytes, size, count, numbers);
+    Line {
+        whole: true,
+        room,
+        size,
+        count,
+    }
+}
+
+// Prints one line's reply, with the lent slice behind it.
+fn print_written(lent: &mut [u8], word: &[u8], numbers: &[u64], text: &mut [u8])
+    requires { ⌜ length (now lent) ≤ 5000 ⌝ }
+{
+    let written = lines::write_line(lent, word, numbers);
+    print_bytes(
+        text,
+        b"line",
+        &[wide(written.refusal), written.size as u64],
+        lent,
+    );
+}
+
+// Prints the reply of one line from a place on, with the lent slice behind it.
+fn print_put(lent: &mut [u8], at: usize, word: &[u8], numbers: &[u64], text: &mut [u8])
+    requires { ⌜ length (now lent) ≤ 5000 ⌝ }
+{
+    let end = lines::put_line(lent, at, word, numbers);
+    print_bytes(text, b"put", &[end as u64], lent);
+}
+
+// Prints the reply of one line, from a place on or not.
+fn print_either(kind: u8, lent: &mut [u8], at: usize, word: &[u8], numbers: &[u64], text: &mut [u8])
+    requires { ⌜ length (now lent) ≤ 5000 ⌝ }
+{
+    count_up_bytes(lent);
+    match kind {
+        15 => print_written(lent, word, numbers, text),
+        _ => print_put(lent, at, word, numbers, text),
+    }
+}
+
+// One line, from a place on or not. Where the request has no place, the place is not looked at.
+fn answer_line(kind: u8, at: usize, bytes: &mut [u8], numbers: &mut [u64], text: &mut [u8]) -> bool
+    requires { ⌜ (length (now bytes) ≡ 200000) × (length (now numbers) ≡ 5001) ⌝ }
+{
+    let mut lent = [0u8; 5000];
+    let line = take_line(bytes, numbers);
+    let room = line.room;
+    let size = line.size;
+    let count = line.count;
+    if line.whole {
+        print_either(
+            kind,
+            &mut lent[0..room],
+            at,
+            &bytes[0..size],
+            &numbers[0..count],
+            text,
+        );
+    }
+    line.whole
+}
+
+// One line from a place on, which stands before what any line is asked with.
+fn answer_put(kind: u8, bytes: &mut [u8], numbers: &mut [u64], text: &mut [u8]) -> bool
+    requires { ⌜ (length (now bytes) ≡ 200000) × (length (now numbers) ≡ 5001) ⌝ }
+{
+    if !take(bytes, 8) {
+        return false;
+    }
+    let at = place(bytes, 0);
+    answer_line(kind, at, bytes, numbers, text)
+}
+
+// Reads the bytes of a run file, with their number before them.
+fn take_file(bytes: &mut [u8]) -> Rest
+    requires { ⌜ length (now bytes) ≡ 200000 ⌝ }
+    ensures { λ r. ⌜ r .count ≤ 200000 ⌝ }
+{
+    let none = Rest {
+        whole: false,
+        count: 0,
+    };
+    if !take(bytes, 4) {
+        return none;
+    }
+    let count = number(bytes, 0, 4) as usize;
+    if 200000 < count {
+        return none;
+    }
+    Rest {
+        whole: take(bytes, count),
+        count,
+    }
+}
+
+// Prints the listing's reply, with the lent slice behind it.
+fn print_listing(text: &mut [u8], lent: &mut [u8], file: &[u8])
+    requires { ⌜ length (now lent) ≤ 5000 ⌝ }
+{
+    count_up_bytes(lent);
+    let listed = listing::list(file, lent);
+    let reply = [wide(listed.refusal), listed.size as u64, wide(listed.ends)];
+    print_bytes(text, b"listing", &reply, lent);
+}
+
+// The listing of a run file.
+fn answer_listing(bytes: &mut [u8], text: &mut [u8]) -> bool
+    requires { ⌜ length (now bytes) ≡ 200000 ⌝ }
+{
+    if !take(bytes, 2) {
+        return false;
+    }
+    let mut lent = [0u8; 5000];
+    let room = number2(bytes, 0) as usize;
     if 5000 < room {
         return false;
     }
-    if !take(bytes, size) {
-        return false;
+    let file = take_file(bytes);
+    let count = file.count;
+    if file.whole {
+        print_listing(text, &mut lent[0..room], &bytes[0..count]);
     }
-    print_table(n, &bytes[0..size], &mut numbers[0..1 + room], text);
+    file.whole
+}
+
+// The outcome of a run file.
+fn answer_outcome(bytes: &mut [u8], text: &mut [u8]) -> bool
+    requires { ⌜ length (now bytes) ≡ 200000 ⌝ }
+{
+    let file = take_file(bytes);
+    let count = file.count;
+    if file.whole {
+        print_state(text, b"outcome", listing::outcome(&bytes[0..count]));
+    }
+    file.whole
+}
+
+// The state that stands where there is no run. No call of this kind is refused, so the refusal's number is left out.
+fn answer_none(text: &mut [u8]) -> bool {
+    let numbers = state_numbers(Next {
+        refusal: 0,
+        run: run::no_run(),
+    });
+    inout::print_line(text, b"none", &numbers[1..32]);
     true
 }
 
 // The next request. False where there is none, or none that can be answered.
 fn answer(bytes: &mut [u8], numbers: &mut [u64], text: &mut [u8]) -> bool
-    requires { ⌜ (length (now bytes) ≡ 65536) × (length (now numbers) ≡ 5001) ⌝ }
+    requires { ⌜ (length (now bytes) ≡ 200000) × (length (now numbers) ≡ 5001) ⌝ }
 {
     if !take(bytes, 1) {
         return false;
@@ -365,6 +769,14 @@ fn answer(bytes: &mut [u8], numbers: &mut [u64], text: &mut [u8]) -> bool
         5 => answer_iteration(bytes, numbers, text),
         6 => answer_heading(bytes, numbers, text),
         7 => answer_table(bytes, numbers, text),
+        8..=13 => answer_sizes(kind, bytes, text),
+        14 => answer_steps(bytes, numbers, text),
+        15 => answer_line(kind, 0, bytes, numbers, text),
+        16 => answer_put(kind, bytes, numbers, text),
+        17 => answer_part(bytes, numbers, text),
+        18 => answer_listing(bytes, text),
+        19 => answer_outcome(bytes, text),
+        20 => answer_none(text),
         _ => false,
     }
 }
@@ -372,7 +784,7 @@ fn answer(bytes: &mut [u8], numbers: &mut [u64], text: &mut [u8]) -> bool
 // A proved loop has to end, and nothing says that a stream does: it counts its turns down from a number that no run
 // uses up.
 fn answer_all(bytes: &mut [u8], numbers: &mut [u64], text: &mut [u8])
-    requires { ⌜ (length (now bytes) ≡ 65536) × (length (now numbers) ≡ 5001) ⌝ }
+    requires { ⌜ (length (now bytes) ≡ 200000) × (length (now numbers) ≡ 5001) ⌝ }
 {
     let mut turns = u64::MAX;
     while turns > 0 && answer(bytes, numbers, text) {
@@ -382,7 +794,7 @@ fn answer_all(bytes: &mut [u8], numbers: &mut [u64], text: &mut [u8])
 
 // The longest line is a table's: 5001 numbers of at most 20 digits.
 fn main() {
-    let mut bytes = [0u8; 65536];
+    let mut bytes = [0u8; 200000];
     let mut numbers = [0u64; 5001];
     let mut text = [0u8; 105027];
     answer_all(&mut bytes, &mut numbers, &mut text);

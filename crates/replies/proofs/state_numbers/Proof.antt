@@ -1,17 +1,17 @@
--- `replies::print_state` is safe and ends: there are 32 numbers throughout. The measure is the number of boxes left.
+-- `replies::state_numbers` is safe and ends: there are 32 numbers throughout. The measure is the number of boxes left.
 -- Assumes nothing.
 use Prim.Native.Nat.{_-_}
 use mathlib.Core.Path.{_≡_}
 use lib.ListN.{length}
 use borrow.Author.Needs.{needs}
-use Rattle.replies.proofs.print_state.Statement.{statement}
-use Rattle.replies.proofs.print_state.Tie as tie
+use Rattle.replies.proofs.state_numbers.Statement.{statement}
+use Rattle.replies.proofs.state_numbers.Tie as tie
 
 abbrev Inv-loop : tie.InvT-loop
-Inv-loop text word run numbers₀ i₀ numbers i = length numbers ≡ 32
+Inv-loop run numbers₀ i₀ numbers i = length numbers ≡ 32
 
 abbrev μ-loop : tie.MeasureT-loop
-μ-loop text word run numbers₀ i₀ numbers i = 13 - i
+μ-loop run numbers₀ i₀ numbers i = 13 - i
 
 wide-requires : tie.Need-wide-requires Inv-loop μ-loop
 wide-requires c κs = search needs
@@ -91,20 +91,11 @@ loop-less c = search needs
 loop-again : tie.Need-loop-again Inv-loop μ-loop
 loop-again c = search needs
 
-slice-aggregate-print-line : tie.Need-slice-aggregate-print-line Inv-loop μ-loop
-slice-aggregate-print-line c = search needs
-
-print-line-requires : tie.Need-print-line-requires Inv-loop μ-loop
-print-line-requires c κs = search needs
-
-same-length : tie.Need-same-length Inv-loop μ-loop
-same-length c = search needs
-
 returns : tie.Need-returns Inv-loop μ-loop
 returns c = search needs
 
-pub print-state-spec : {M : Type 1} → statement M
-print-state-spec =
+pub state-numbers-spec : {M : Type 1} → statement M
+state-numbers-spec =
     tie.close
     (tie.spec
     Inv-loop
@@ -135,7 +126,4 @@ print-state-spec =
     add-i
     loop-less
     loop-again
-    slice-aggregate-print-line
-    print-line-requires
-    same-length
     returns)

@@ -1,17 +1,17 @@
--- `replies::state_lists` is safe and ends: there are 13 lists throughout. The measure is the number of lists left.
+-- `replies::box_lists` is safe and ends: there are 13 lists throughout. The measure is the number of lists left.
 -- Assumes nothing.
 use Prim.Native.Nat.{_-_}
 use mathlib.Core.Path.{_≡_}
 use lib.ListN.{length}
 use borrow.Author.Needs.{needs}
-use Rattle.replies.proofs.state_lists.Statement.{statement}
-use Rattle.replies.proofs.state_lists.Tie as tie
+use Rattle.replies.proofs.box_lists.Statement.{statement}
+use Rattle.replies.proofs.box_lists.Tie as tie
 
 abbrev Inv-loop : tie.InvT-loop
-Inv-loop bytes lists₀ i₀ lists i = length lists ≡ 13
+Inv-loop bytes at lists₀ i₀ lists i = length lists ≡ 13
 
 abbrev μ-loop : tie.MeasureT-loop
-μ-loop bytes lists₀ i₀ lists i = 13 - i
+μ-loop bytes at lists₀ i₀ lists i = 13 - i
 
 loop-holds : tie.Need-loop-holds Inv-loop μ-loop
 loop-holds c = search needs
@@ -43,8 +43,8 @@ loop-again c = search needs
 returns : tie.Need-returns Inv-loop μ-loop
 returns c = search needs
 
-pub state-lists-spec : {M : Type 1} → statement M
-state-lists-spec =
+pub box-lists-spec : {M : Type 1} → statement M
+box-lists-spec =
     tie.close
     (tie.spec
     Inv-loop
