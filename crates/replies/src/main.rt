@@ -541,7 +541,12 @@ fn steps_asked(bytes: &[u8]) -> Asked
 fn cast(asked: Asked, table: &[u64]) -> Cast {
     let rows = asked.rows;
     let lists = asked.lists;
-    gradecast::steps(asked.n, asked.t, asked.faulty, &rows, &lists, table)
+    let settings = gradecast::Settings {
+        n: asked.n,
+        t: asked.t,
+        faulty: asked.faulty,
+    };
+    gradecast::steps(settings, &rows, &lists, table)
 }
 
 // Prints what steps 1 to 4 give.
