@@ -1,7 +1,6 @@
 -- What a box hears in step 2 or 3. It is put down sender by sender, each sender's rows one below the other, so that a
--- leader's column is a part of its own. That column is the document's: the cell at j * n + k is what box j sends about
--- leader k where j is sound, and a faulty box's cell is never heard.
--- Assumes nothing.
+-- leader's column is a part of its own. That column is the one of the definitions: the cell at j * n + k is what box
+-- j sends about leader k where j is sound, and a faulty box's cell is never heard. Assumes nothing.
 use mathlib.Core.Path.{_≡_, refl, sym, ap, _∙_}
 use mathlib.Core.List.{List}
 use mathlib.Core.Logic.{⊎-elim}

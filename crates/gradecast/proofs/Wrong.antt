@@ -1,4 +1,4 @@
--- The list as it grows within the iteration gives other confidences than the document's. Four boxes, t = 1, boxes 0
+-- The list as it grows within the iteration gives other confidences than the rules. Four boxes, t = 1, boxes 0
 -- and 3 named faulty. They are silent, but that in step 3 both say 9 about leader 3 to box 1. That is two places, so
 -- its confidence in leader 3 is 1. By the list as it grows box 1 has listed leader 0 by then, hears 9 from box 3
 -- alone, and has confidence 0. Assumes nothing.

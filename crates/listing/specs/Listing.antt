@@ -1,4 +1,4 @@
--- The listing of a run file and its outcome, as document 01 has them under "The program and one listing in full". A
+-- The listing of a run file and its outcome, as docs/SCOPE.md has them under the program and its listing. A
 -- text is a list of bytes; boxes count from 0 here, and from 1 in the text.
 use Prim.Native.Nat.{ℕ, zero, suc, _+_}
 use mathlib.Core.Bool.{cond, _&&_}

@@ -1,4 +1,4 @@
--- The one claim over the marked cases: the definitions compute to what the document prints; and for every slice of
+-- The one claim over the marked cases: the definitions compute to what docs/SCOPE.md prints; and for every slice of
 -- rows confidence 1 never arises when t is 0. Assumes nothing.
 use mathlib.Core.Path.{_≡_, refl}
 use mathlib.Core.Bool.{Bool, true, false, cond}

@@ -81,7 +81,7 @@ use Rattle.marked.specs.Worthless.{
   quietly,
 }
 
--- what the definitions give in case S, and at the votes and grades that the document marks
+-- what the definitions give in case S, and at the votes and grades that are marked
 record Computed : Type 0 where
   started : caseS 0 .refusal ≡ 0
   iterated : caseS 1 .refusal ≡ 0

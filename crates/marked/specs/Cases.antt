@@ -1,5 +1,5 @@
--- The marked cases of document 01, "Both sides of each threshold", as one list: what the definitions give, and the
--- numbers that the document prints. Boxes count from 0 here.
+-- The marked cases of docs/SCOPE.md as one list: what the definitions give, and the numbers that are printed there.
+-- Boxes count from 0 here.
 use Prim.Native.Nat.{ℕ, zero, suc}
 use mathlib.Core.Path.{_≡_}
 use mathlib.Core.List.{List, [], _∷_, _++_}
@@ -12,13 +12,13 @@ use Rattle.run.specs.declared.Next.{Next}
 use Rattle.run.specs.State.{startReply, after}
 use Rattle.listing.specs.Listing.{listingOf}
 
--- a case: the numbers that the definitions give, and the numbers of the document; or what they give for any slice of
+-- a case: the numbers that the definitions give, and the numbers of docs/SCOPE.md; or what they give for any slice of
 -- rows, and a number that never arises
 pub data Case : Type 0 where
   gives : List ℕ → List ℕ → Case
   never : (List ℕ → ℕ) → ℕ → Case
 
--- every case of the list gives what the document prints
+-- every case of the list gives what is printed
 abbrev pub Hold : List Case → Type 0
 Hold [] = Unit
 Hold (Case.gives got printed ∷ rest) = (got ≡ printed) × Hold rest
@@ -71,7 +71,7 @@ fileOfS =
     72 ∷ 78 ∷ 66 ∷ 0 ∷ 1 ∷ 4 ∷ 1 ∷ 0 ∷ 8 ∷
     inBytes rowsOfS ++ (inBytes liesOfS ++ inBytes (silent 4))
 
--- the eight lines of case S, as the document prints them: run 4 1 8; at 1 1 10 8; at 1 2 20 8; at 1 3 10 8; at 2 1 10
+-- the eight lines of case S, as they are printed: run 4 1 8; at 1 1 10 8; at 1 2 20 8; at 1 3 10 8; at 2 1 10
 -- 8; at 2 2 10 8; at 2 3 10 8; sent 184
 abbrev pub linesOfS : List ℕ
 linesOfS =
@@ -100,7 +100,7 @@ gradeBy t support others =
 abbrev pub voteBy : ℕ → List ℕ → List ℕ
 voteBy t rows = voteReply rows t .refusal ∷ voteReply rows t .row ∷ []
 
--- the marked cases, in the document's order
+-- the marked cases, in their order
 abbrev pub marked : List Case
 marked =
     -- case S: messages 100, then 84 more; all but box 2 hold 10 after iteration 1, all after iteration 2

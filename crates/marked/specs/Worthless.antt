@@ -89,7 +89,7 @@ common row = row ∷ row ∷ row ∷ 0 ∷ []
 abbrev pub quietly : ℕ → List ℕ
 quietly m = silent 4
 
--- the votes that the document marks for n = 4 and t = 1: these rows give 6, and the others 0
+-- the votes that are marked for n = 4 and t = 1: these rows give 6, and the others 0
 abbrev pub votes6 : List ℕ
 votes6 = 6 ∷ 6 ∷ 0 ∷ 6 ∷ []
 

@@ -84,4 +84,5 @@ pub calls-taken : {n t faulty : ℕ} {rows : List ℕ} {tables : ℕ → List �
     Calls n t faulty rows tables reply → Startable n t faulty rows →
     ((m : ℕ) → m < t + 1 → length (tables m) ≡ tableRows n) → (m : ℕ) → m ≤ t + 1 → reply m .refusal ≡ 0
 calls-taken {n} {t} {faulty} {rows} {tables} c starts sized m l =
-    ap (λ (r : Next). r .refusal) (calls-are c m) ∙ none-refused n t faulty rows tables (t + 1) (le-refl _) starts sized m l
+    ap (λ (r : Next). r .refusal) (calls-are c m)
+    ∙ none-refused n t faulty rows tables (t + 1) (le-refl _) starts sized m l

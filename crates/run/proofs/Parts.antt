@@ -1,5 +1,5 @@
 -- Step 5 reads box i's part of the 169 places, from i * n to i * n + n: it is the list of the leaders' rows, or
--- confidences, that the document gives box i. Assumes nothing.
+-- confidences, that the definitions give box i. Assumes nothing.
 use mathlib.Core.Path.{_≡_, sym, ap, ap₂, _∙_, subst}
 use mathlib.Core.Bool.{false, _||_}
 use mathlib.Core.List.{List}
@@ -47,7 +47,7 @@ module _ (s : Run) (i : ℕ) (low : 1 ≤ s .n) (high : s .n ≤ 13) (works : Wo
   abbrev end : ℕ
   end = i * s .n + s .n
 
-  -- the row that `choose` gives over box i's parts is the document's choice
+  -- the row that `choose` gives over box i's parts is the definition's choice
   pub choice-of : length rows ≡ 169 → length confs ≡ 169 →
       choiceReply (take (end - from) (drop from rows)) (take (end - from) (drop from confs)) .row ≡
       chosenRow (gradedRows s table i) (confidences s table i)
@@ -73,7 +73,7 @@ module _ (s : Run) (i : ℕ) (low : 1 ≤ s .n) (high : s .n ≤ 13) (works : Wo
       small : (k : ℕ) → k < s .n → getD (build (s .n) (conf i)) k 0 ≤ 2
       small k l = subst (λ (m : ℕ). m ≤ 2) (sym (getD-build (s .n) (conf i) k 0 l)) (confidence-le _ _)
 
-  -- the list from box i's part is the document's new list
+  -- the list from box i's part is the definition's new list
   pub list-of : listFrom s confs i ≡ newList s table i
   unfolding listFrom newList confidences
   list-of =

@@ -1,5 +1,5 @@
 -- One iteration put together: an accepted call is ready for steps 1 to 4, their reply is what step 5 is given, the
--- counters stay small, and the parts are the document's next state. Assumes nothing.
+-- counters stay small, and the parts are the next state of the definitions. Assumes nothing.
 use mathlib.Core.Path.{_≡_, refl, sym, ap, _∙_}
 use mathlib.Core.Bool.{Bool, true, false, cond, _&&_}
 use mathlib.Core.List.{List}

@@ -1,5 +1,5 @@
--- The run file as document 01 lays it out: where each number stands in the bytes. All numbers are most significant
--- byte first.
+-- The run file, as docs/RUNFILE.md lays it out: where each number stands in the bytes. All numbers are most
+-- significant byte first.
 use Prim.Native.Nat.{ℕ, zero, suc, _+_, _*_}
 use mathlib.Core.Bool.{Bool, cond, _&&_}
 use mathlib.Core.List.{List}

@@ -1,5 +1,5 @@
--- The numbers that document 01 allows: boxes, the tolerated, a set of boxes, the rows of a table. Boxes count from 0
--- here.
+-- The numbers that are allowed (docs/SCOPE.md): boxes, the tolerated, a set of boxes, the rows of a table. Boxes
+-- count from 0 here.
 use Prim.Native.Nat.{ℕ, _+_, _-_, _*_, _/_, _^_}
 use mathlib.Core.Path.{_≡_}
 use mathlib.Core.Bool.{Bool, false, cond, not, _&&_, _||_}

@@ -1,5 +1,5 @@
--- The whole replies of vote, grade and choice: first the refusals in document 01's order, then the answer. A refused
--- call gives 0 for everything but the refusal's number.
+-- The whole replies of vote, grade and choice: first the refusals in the order of docs/SCOPE.md, then the answer. A
+-- refused call gives 0 for everything but the refusal's number.
 use Prim.Native.Nat.{ℕ}
 use mathlib.Core.Bool.{cond, not}
 use mathlib.Core.List.{List, [], _∷_}

@@ -201,7 +201,8 @@ fn counted_row(row: u64, confidence: u8) -> u64
 // The rows of the leaders with confidence 1 or 2.
 fn counted_rows(rows: &[u64], confidences: &[u8]) -> [u64; 13]
     requires { ⌜ (length (now rows) ≤ 13) × (length (now rows) ≡ length (now confidences)) ⌝ }
-    ensures { λ r. ⌜ (length r ≡ 13) × (take (length (now (rows .entry))) r ≡ counted (now (rows .entry)) (now (confidences .entry))) ⌝ }
+    ensures { λ r. ⌜ (length r ≡ 13) ×
+        (take (length (now (rows .entry))) r ≡ counted (now (rows .entry)) (now (confidences .entry))) ⌝ }
 {
     let mut out = [0u64; 13];
     let mut i: usize = 0;

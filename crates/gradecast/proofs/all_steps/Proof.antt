@@ -1,6 +1,6 @@
--- `gradecast::all_steps` meets its contract: the cells of step 2 and of step 3 are the document's V and Y, the grades
--- over them are step 4's, and the messages are counted over the cells. What all boxes go by is worked out before step
--- 1. Assumes nothing.
+-- `gradecast::all_steps` meets its contract: the cells of step 2 and of step 3 are V and Y of the definitions, the
+-- grades over them are step 4's, and the messages are counted over the cells. What all boxes go by is worked out
+-- before step 1. Assumes nothing.
 use mathlib.Core.Path.{refl}
 use Rattle.gradecast.specs.Inside.{Prepared}
 use Rattle.gradecast.proofs.Replies.{cast-is}

@@ -1,5 +1,5 @@
 -- `gradecast::step3_box` meets its contract: a faulty box's cells are 0 as they stand; a sound box votes over the
--- columns of step 2 in the document, or with its own word where the leader need not be counted, and the votes are its
+-- columns of step 2 in the rules, or with its own word where the leader need not be counted, and the votes are its
 -- Y. What every box hears alike stays for the next box. Assumes nothing.
 use mathlib.Core.Path.{sym, _∙_}
 use native.Mathlib.Omega.{arith}

@@ -1,5 +1,5 @@
 -- `gradecast::step4_box` meets its contract: a faulty box's cells are 0 as they stand; a sound box grades over the
--- columns of step 3 in the document, or by its own word where the leader need not be counted, and the grades are those
+-- columns of step 3 in the rules, or by its own word where the leader need not be counted, and the grades are those
 -- of step 4. What every box hears alike stays for the next box. Assumes nothing.
 use mathlib.Core.Path.{sym, _∙_}
 use Prim.Native.Nat.{_+_, _*_, _≤_}

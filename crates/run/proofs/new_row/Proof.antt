@@ -1,5 +1,5 @@
 -- `run::new_row` meets its contract: box i's parts of the 169 places are the leaders' rows and confidences, and the
--- choice over them is the document's. Assumes nothing.
+-- choice over them is the definition's. Assumes nothing.
 use mathlib.Core.Path.{_≡_, sym, ap, _∙_}
 use mathlib.Core.List.{List}
 use Prim.Native.Nat.{ℕ, _+_, _*_, _≤_}
@@ -64,7 +64,7 @@ state-of c = start-of c .args .t1
 abbrev Found : tie.After-choose → List ℕ → Type 0
 Found c table = GradesOf (state-of c) table (start-of c .args .rows .now) (start-of c .args .confidences .now)
 
--- the choice is the document's, with whatever table the grades were found
+-- the choice is the definition's, with whatever table the grades were found
 chosen : (c : tie.After-choose) (table : List ℕ) → Found c table →
     let i = start-of c .args .i in
     c .choose .result .row ≡ chosenRow (gradedRows (state-of c) table i) (confidences (state-of c) table i)
