@@ -25,7 +25,7 @@ fn fill_part(bytes: &mut [u8], at: usize, end: usize) -> usize
 
 // Reads until the part of the bytes from a place to an end is full or the input ends, and gives the place behind the
 // last byte that came. What lies before and behind the part stays. Where the bytes have no such part, nothing is
-// read.
+// read. Which bytes come in, and how many, is left open: no contract can say what stands on standard input.
 pub fn fill(bytes: &mut [u8], at: usize, end: usize) -> usize
     ensures { λ r. ⌜ (at ≤ r) × (r ≤ at + (end - at)) ⌝ }
     ensures { λ r. ⌜ take at (now (bytes .exit)) ≡ take at (now (bytes .entry)) ⌝ }
