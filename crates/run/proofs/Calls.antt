@@ -1,12 +1,13 @@
 -- A run made of calls: the contracts of `start` and `iterate`, as the toolchain states them, of one reply after
 -- another. Each reply is then the one that the definitions give, so that what is proved of those holds of every run
 -- that is made by calls. A contract that said less of its reply would not do. Assumes nothing.
-use mathlib.Core.Path.{_≡_, sym, ap, _∙_}
+use mathlib.Core.Path.{_≡_, refl, sym, ap, _∙_}
 use mathlib.Core.Bool.{Bool, true, false, cond}
-use mathlib.Core.List.{List}
+use mathlib.Core.List.{List, []}
 use Prim.Native.Nat.{ℕ, zero, suc, _+_, _≤_, _<_}
 use native.Mathlib.Nat.{le-refl, not-suc-le-zero}
 use lib.ListN.{length, getD}
+use denote.Ref.{RefT}
 use lib.Dec.{eqb}
 use Rattle.sizes.specs.Sizes.{tableRows, Startable}
 use Rattle.gradecast.specs.Fair.{SoundBox}
@@ -86,3 +87,28 @@ pub calls-taken : {n t faulty : ℕ} {rows : List ℕ} {tables : ℕ → List �
 calls-taken {n} {t} {faulty} {rows} {tables} c starts sized m l =
     ap (λ (r : Next). r .refusal) (calls-are c m)
     ∙ none-refused n t faulty rows tables (t + 1) (le-refl _) starts sized m l
+
+-- a slice of these numbers, lent
+lent : List ℕ → RefT (List ℕ)
+lent numbers = record { ptr = (0, 0); name = 0; now = numbers }
+
+-- there are such calls, with every argument: what the definitions give meets the contracts
+start-call : (n t faulty : ℕ) (rows : List ℕ) → StartCall n t faulty rows (startReply n t faulty rows)
+unfolding lent
+start-call n t faulty rows =
+    StartCall.call ([], tt) (n, (t, (faulty, (lent rows, tt)))) (startReply n t faulty rows)
+    (n, (t, (faulty, (lent rows, tt)))) refl
+
+iterate-call : (s : Run) (table : List ℕ) → IterateCall s table (iterateReply s table)
+unfolding lent
+iterate-call s table =
+    IterateCall.call ([], tt) (s, (lent table, tt)) (iterateReply s table) (s, (lent table, tt)) refl
+
+pub calls-exist : (n t faulty : ℕ) (rows : List ℕ) (tables : ℕ → List ℕ) →
+    Calls n t faulty rows tables (after (startReply n t faulty rows) tables)
+unfolding after
+calls-exist n t faulty rows tables =
+    record {
+      started = start-call n t faulty rows;
+      iterated = λ m. iterate-call (after (startReply n t faulty rows) tables m .run) (tables m);
+    }
