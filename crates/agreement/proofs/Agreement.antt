@@ -28,11 +28,11 @@ use Rattle.run.specs.Legal.{Legal}
 use Rattle.run.proofs.Accepted.{not-zero-rows}
 use Rattle.run.proofs.Calls.{Calls, calls-are}
 use Rattle.run.proofs.Closed.{start-not-zero}
-use Rattle.run.proofs.Course.{Stands, start-run, stands, next-state, none-refused}
+use Rattle.run.proofs.Course.{Reached, start-run, reached, next-state, never-refused}
 use Rattle.run.proofs.Kept.{start-row, start-list}
 use Rattle.agreement.specs.Demand.{
   iterations,
-  Setting,
+  Premises,
   AllHold,
   SameRow,
   replies,
@@ -57,7 +57,7 @@ fair-next : (s : Run) (table : List ℕ) → Legal s → FairState s → FairSta
 unfolding nextRun
 fair-next = next-fair
 
-module _ (n t faulty : ℕ) (rows : List ℕ) (tables : ℕ → List ℕ) (setting : Setting n t faulty rows tables) where
+module _ (n t faulty : ℕ) (rows : List ℕ) (tables : ℕ → List ℕ) (setting : Premises n t faulty rows tables) where
   -- the start is taken
   starts : Startable n t faulty rows
   starts =
@@ -79,8 +79,8 @@ module _ (n t faulty : ℕ) (rows : List ℕ) (tables : ℕ → List ℕ) (setti
   abbrev state : ℕ → Run
   state m = reply m .run
 
-  stands-at : (m : ℕ) → m ≤ iterations t → Stands n t faulty m (state m)
-  stands-at = stands n t faulty rows tables (iterations t) enough starts (setting .sized)
+  reached-at : (m : ℕ) → m ≤ iterations t → Reached n t faulty m (state m)
+  reached-at = reached n t faulty rows tables (iterations t) enough starts (setting .sized)
 
   step-run : (m : ℕ) → m < iterations t → state (suc m) ≡ nextRun (state m) (tables m)
   step-run = next-state n t faulty rows tables (iterations t) enough starts (setting .sized)
@@ -104,7 +104,7 @@ module _ (n t faulty : ℕ) (rows : List ℕ) (tables : ℕ → List ℕ) (setti
   fair-state zero h = subst FairState (sym (start-run starts)) start-fair
   fair-state (suc m) h =
       subst FairState (sym (step-run m h))
-      (fair-next (state m) (tables m) (stands-at m (omega arith) .legal) (fair-state m (omega arith)))
+      (fair-next (state m) (tables m) (reached-at m (omega arith) .legal) (fair-state m (omega arith)))
 
   -- what one iteration brings, by the state's own n, t and faulty set, it brings by those of the run
   onward : (P : ℕ → ℕ → ℕ → Run → Type 0) (m : ℕ) → m < iterations t →
@@ -112,7 +112,7 @@ module _ (n t faulty : ℕ) (rows : List ℕ) (tables : ℕ → List ℕ) (setti
       P (state m .n) (state m .t) (state m .faulty) (nextRun (state m) (tables m))) →
       P n t faulty (state (suc m))
   onward P m l h =
-      let g = stands-at m (omega arith) in
+      let g = reached-at m (omega arith) in
       subst (P n t faulty) (sym (step-run m l))
       (subst₃ (λ (a b c : ℕ). P a b c (nextRun (state m) (tables m))) (g .same-n) (g .same-t) (g .same-faulty)
       (h (g .legal) (fair-state m (omega arith))))
@@ -120,7 +120,7 @@ module _ (n t faulty : ℕ) (rows : List ℕ) (tables : ℕ → List ℕ) (setti
   -- a state is fair by n, t and the faulty set of the run
   fair-after : (m : ℕ) → m ≤ iterations t → Fair n t faulty (rowsAfter reply m) (listsAfter reply m)
   fair-after m h =
-      let g = stands-at m h in
+      let g = reached-at m h in
       subst₃ (λ (a b c : ℕ). Fair a b c (state m .rows) (state m .lists)) (g .same-n) (g .same-t) (g .same-faulty)
       (fair-state m h)
 
@@ -199,7 +199,7 @@ module _ (n t faulty : ℕ) (rows : List ℕ) (tables : ℕ → List ℕ) (setti
   pub replies-keep : Demand3 n t faulty rows tables reply
   replies-keep =
       record {
-        not-refused = none-refused n t faulty rows tables (iterations t) enough starts (setting .sized);
+        not-refused = never-refused n t faulty rows tables (iterations t) enough starts (setting .sized);
         agrees = agrees;
         valid = valid;
         never-listed = never-listed;
@@ -211,7 +211,7 @@ module _ (n t faulty : ℕ) (rows : List ℕ) (tables : ℕ → List ℕ) (setti
 -- demand 3, of any replies of which the first meets the contract of `start` and each next one that of `iterate`, on
 -- the state before it and its table
 pub demand3 : {n t faulty : ℕ} {rows : List ℕ} {tables : ℕ → List ℕ} {reply : ℕ → Next} →
-    Setting n t faulty rows tables → Calls n t faulty rows tables reply → Demand3 n t faulty rows tables reply
+    Premises n t faulty rows tables → Calls n t faulty rows tables reply → Demand3 n t faulty rows tables reply
 demand3 {n} {t} {faulty} {rows} {tables} setting calls =
     subst (Demand3 n t faulty rows tables) (λ i m. sym (calls-are calls m) i)
     (replies-keep n t faulty rows tables setting)

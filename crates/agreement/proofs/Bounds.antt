@@ -47,14 +47,14 @@ use Rattle.run.specs.State.{
   after,
 }
 use Rattle.run.proofs.Accepted.{is-start-accepted, rows-not-zero}
-use Rattle.agreement.specs.Demand.{iterations, Setting}
+use Rattle.agreement.specs.Demand.{iterations, Premises}
 use Rattle.agreement.specs.Bounds.{BoundsNeeded, three, two, splitting}
 
 -- the premises of demand 3, from a start that is not refused
-pub start-setting : (n t faulty : ℕ) (rows : List ℕ) (tables : ℕ → List ℕ) → startRefusal n t faulty rows ≡ 0 →
+pub start-premises : (n t faulty : ℕ) (rows : List ℕ) (tables : ℕ → List ℕ) → startRefusal n t faulty rows ≡ 0 →
     faultyBoxes n faulty ≤ t → ((m : ℕ) → m < iterations t → length (tables m) ≡ tableRows n) →
-    Setting n t faulty rows tables
-start-setting n t faulty rows tables e few sized =
+    Premises n t faulty rows tables
+start-premises n t faulty rows tables e few sized =
     let a = is-start-accepted n t faulty rows e in
     record {
       from-1 = inside-low n (a .pass4);
@@ -77,7 +77,7 @@ bounds-needed =
     record {
       too-few-iterations =
           record {
-            setting = start-setting 4 1 8 three splitting refl (omega arith) (λ m l. refl);
+            setting = start-premises 4 1 8 three splitting refl (omega arith) (λ m l. refl);
             counts = refl;
             leaves = refl;
             box0 = refl;

@@ -7,7 +7,7 @@ use lib.ListN.{getD, set, replicate}
 use Rattle.gradecast.specs.Steps.{place1, place2, place3, voted}
 use Rattle.gradecast.specs.Lies.{silent}
 use Rattle.gradecast.specs.Fair.{faultyBoxes, NoSoundListed, SoundRowsNotZero}
-use Rattle.agreement.specs.Demand.{Setting, replies, rowsAfter, confidenceIn}
+use Rattle.agreement.specs.Demand.{Premises, replies, rowsAfter, confidenceIn}
 
 -- box 3 of 4 sends, all for itself as leader: in step 1 20 to boxes 0 and 1, in step 2 20 to box 0, in step 3 20 to
 -- box 1
@@ -22,7 +22,7 @@ three = 10 ∷ 20 ∷ 30 ∷ 0 ∷ []
 -- t iterations are too few: the premises hold, a faulty leader is counted by box 1 and not by box 0, and after t
 -- iterations boxes 0 and 1 hold different rows
 pub record TooFewIterations : Type 0 where
-  pub setting : Setting 4 1 8 three splitting
+  pub setting : Premises 4 1 8 three splitting
   pub counts : confidenceIn 4 1 8 splitting (replies 4 1 8 three splitting) 0 1 3 ≡ 1
   pub leaves : confidenceIn 4 1 8 splitting (replies 4 1 8 three splitting) 0 0 3 ≡ 0
   pub box0 : getD (rowsAfter (replies 4 1 8 three splitting) 1) 0 0 ≡ 10

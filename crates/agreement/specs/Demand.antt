@@ -19,7 +19,7 @@ iterations t = t + 1
 
 -- what is assumed: n from 1 to 13, 3t less than n, at most t of the n boxes faulty, n starting rows of which no sound
 -- box's is 0, and a table of the right length for each iteration
-pub record Setting (n t faulty : ℕ) (rows : List ℕ) (tables : ℕ → List ℕ) : Type 0 where
+pub record Premises (n t faulty : ℕ) (rows : List ℕ) (tables : ℕ → List ℕ) : Type 0 where
   pub from-1 : 1 ≤ n
   pub to-13 : n ≤ 13
   pub tolerated : 3 * t < n

@@ -24,7 +24,7 @@ use Rattle.gradecast.specs.Inside.{PutTo, onLeader, plainConfidence, vot
 use Rattle.gradecast.specs.Inside.{SaidSecond, SaidThird}
 use Rattle.gradecast.specs.Inside.{votesOfSound, rowsOfSound, confidencesOfSound}
 use Rattle.gradecast.proofs.Boxes.{sound-not-faulty, not-faulty-sound}
-use Rattle.gradecast.proofs.Cells.{cells-at, put-nothing, put-same}
+use Rattle.gradecast.proofs.Cells.{cells-at, put-skipped, put-same}
 use Rattle.gradecast.proofs.Columns.{votes-heard, rows-heard, confidences-heard}
 use Rattle.gradecast.proofs.Plain.{not-odd-listed}
 use Rattle.gradecast.proofs.Properties.{heard1-is, sound-voted, sound-graded}
@@ -80,7 +80,7 @@ module _ {seat : Seat} {lists table : List ℕ} (p : Seated seat lists table) wh
   pub seat-faulty : {first : List ℕ} → member (seat .hall .settings .faulty) (seat .i) ≡ true → (f : ℕ → ℕ → ℕ) →
       PutTo (seat .hall .settings .n) (seat .i) (seat .hall .settings .n)
       (ofSound (seat .hall .settings .faulty) f (seat .i)) first first
-  seat-faulty h f = put-nothing (p .prepared .size .high) (p .below) _ (λ k l. of-faulty _ f _ k h)
+  seat-faulty h f = put-skipped (p .prepared .size .high) (p .below) _ (λ k l. of-faulty _ f _ k h)
 
   pub seat-sound : {first last : List ℕ} (f g : ℕ → ℕ) → ((k : ℕ) → k < seat .hall .settings .n → f k ≡ g k) →
       PutTo (seat .hall .settings .n) (seat .i) (seat .hall .settings .n) f first last →

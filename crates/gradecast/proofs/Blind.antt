@@ -12,7 +12,7 @@ use Rattle.counting.proofs.Build.{build-ext}
 use Rattle.counting.proofs.Count.{sum-ext, count-ext}
 use Rattle.sizes.specs.Sizes.{sound}
 use Rattle.tally.specs.Tally.{voteOf, confidenceOf, gradedRow}
-use Rattle.gradecast.specs.Steps.{place1, place2, place3, sends, hears, sent1, heard1, heard2, column2}
+use Rattle.gradecast.specs.Steps.{place1, place2, place3, sends, hears, sent1, heard1, heard2, column2, sentTo}
 use Rattle.gradecast.specs.Steps.{voted, heard3, column3, confidence, gradeRow, messages}
 use Rattle.gradecast.specs.Lies.{SameLies}
 use Rattle.gradecast.proofs.Messages.{sentByOne, messages-quick}
@@ -62,6 +62,7 @@ module _ (n t faulty : ℕ) (rows lists a b : List ℕ) (same : SameLies n fault
   grade-row-same i k li lk = ap (gradedRow t) (column3-same i k li lk)
 
   pub messages-same : messages n t faulty rows lists a ≡ messages n t faulty rows lists b
+  unfolding sentTo
   messages-same =
       messages-quick n t faulty rows lists a
       ∙ ap (λ (m : ℕ). n * m)

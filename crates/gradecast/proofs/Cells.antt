@@ -105,8 +105,8 @@ module _ {n i : ℕ} (high : n ≤ 13) (below : i < n) (g : ℕ → ℕ) {first 
       λ f h e. p .2 f h e ∙ ap (λ (m : ℕ). cellsTo (i * n + m) n f) q
 
   -- nothing is put for a faulty box
-  pub put-nothing : ((k : ℕ) → k < n → g k ≡ 0) → PutTo n i n g first first
-  put-nothing z = λ f h e. e ∙ cells-skip n f i high below (λ k l. h k l ∙ z k l) n (omega arith)
+  pub put-skipped : ((k : ℕ) → k < n → g k ≡ 0) → PutTo n i n g first first
+  put-skipped z = λ f h e. e ∙ cells-skip n f i high below (λ k l. h k l ∙ z k l) n (omega arith)
 
   -- the same numbers by another name
   pub put-same : (b : ℕ → ℕ) {last : List ℕ} → ((k : ℕ) → k < n → b k ≡ g k) → PutTo n i n b first last →

@@ -13,7 +13,7 @@ use Rattle.counting.specs.Count.{build}
 use Rattle.counting.proofs.Count.{at-or-below}
 use Rattle.tally.specs.Tally.{voteOf, confidenceOf, gradedRow}
 use Rattle.tally.specs.Reply.{voteReply, gradeReply}
-use Rattle.sizes.proofs.Laws.{Sized}
+use Rattle.sizes.specs.Sizes.{Sized}
 use Rattle.tally.proofs.Taken.{vote-row, grade-row, grade-confidence}
 use Rattle.gradecast.specs.Steps.{placeFrom, place2, place3, sends, hears, heard2, column2, voted}
 use Rattle.gradecast.specs.Steps.{heard3, column3, gradeRow, confidence}
@@ -90,8 +90,7 @@ senders-turn {n} {j} g {heard} {last} hj h p =
     below k b hk l = p .stays k b (omega arith) (λ q. absurd (omega arith)) ∙ h k b hk l
 
 -- a leader's column lies within what was heard
-pub column-fits : {s : Settings} {k : ℕ} (heard : List ℕ) → RightSize s → k < s .n → length heard ≡ 169 →
-    k * s .n + s .n ≤ length heard
+pub column-fits : {n t k : ℕ} (heard : List ℕ) → Sized n t → k < n → length heard ≡ 169 → k * n + n ≤ length heard
 column-fits heard size leader all = omega (arith, part-fits (size .high) leader, all)
 
 -- vote and grade over a leader's column, which the code takes from k * n to k * n + n
@@ -120,7 +119,7 @@ module _
         record {
           low = omega (arith, m, size .low);
           high = omega (arith, m, size .high);
-          few = omega (arith, m, size .tolerated);
+          tolerated = omega (arith, m, size .tolerated);
         }
 
     pub part-vote : voteReply part t .row ≡ voteOf t (columnOf n heard k)

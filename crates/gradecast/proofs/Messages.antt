@@ -14,12 +14,9 @@ use Rattle.sizes.specs.Sizes.{tableRows, sound}
 use Rattle.gradecast.specs.Steps.{sent1, sent2, sent3, sentTo, messages}
 
 module _ (n t faulty : ℕ) (rows lists table : List ℕ) where
-  -- the non-zero rows that a sound box j sends to any one box
+  -- the non-zero rows that a sound box j sends to any one box, as to the first
   abbrev pub sentByOne : ℕ → ℕ
-  sentByOne j =
-      cond (eqb (sent1 rows j) 0) 0 1 +
-      count n (λ k. not (eqb (sent2 n faulty rows lists table j k) 0)) +
-      count n (λ k. not (eqb (sent3 n t faulty rows lists table j k) 0))
+  sentByOne j = sentTo n t faulty rows lists table j 0
 
   -- the quick formula
   pub messages-quick : messages n t faulty rows lists table ≡ n * sum n (λ j. cond (sound faulty j) (sentByOne j) 0)
@@ -35,6 +32,7 @@ module _ (n t faulty : ℕ) (rows lists table : List ℕ) where
   one-at-most false = omega arith
 
   at-most : (b : Bool) (j : ℕ) → cond b (sentByOne j) 0 ≤ 1 + n + n
+  unfolding sentTo
   at-most true j =
       omega (
         arith,

@@ -14,7 +14,7 @@ use Rattle.counting.proofs.Bools.{not-false, not-of-true, not-of-false}
 use Rattle.counting.proofs.Refuse.{accepted, refused, passed, none-left}
 use Rattle.sizes.specs.Sizes.{outside, tooMany, sizeRefusal, tableRows, byN}
 use Rattle.sizes.proofs.Laws.{inside, inside-low, inside-high, tolerated-lt, by-n-inside}
-use Rattle.sizes.proofs.Laws.{sized, sized-passes, size-given, size-passed}
+use Rattle.sizes.proofs.Laws.{passes-sized, sized-passes, size-given, size-passed}
 use Rattle.gradecast.specs.declared.Cast.{Cast}
 use Rattle.gradecast.specs.Steps.{gradeRow, confidence, messages}
 use Rattle.gradecast.specs.Cast.{ofSound, cells, castOf, castRefusal, noCast, castReply}
@@ -32,7 +32,7 @@ module _ (n t : ℕ) (table : List ℕ) where
 
   module _ (e : sizeRefusal n t ≡ 0) {rows : ℕ} (h : rows ≡ byN tableRows n) where
     named : rows ≡ tableRows n
-    named = let s = sized n t e in h ∙ by-n-inside tableRows n (inside n (s .low) (s .high))
+    named = let s = passes-sized n t e in h ∙ by-n-inside tableRows n (inside n (s .low) (s .high))
 
     pub steps-cut : (length table ≡ rows → ⊥) → 11 ≡ castRefusal n t table
     unfolding castRefusal
@@ -62,7 +62,7 @@ module _ (n t : ℕ) (table : List ℕ) where
   pub ready-passes : Ready n table → 3 * t < n → castRefusal n t table ≡ 0
   unfolding castRefusal
   ready-passes r few =
-      size-passed n t last (sized-passes n t (record { low = r .low; high = r .high; few = few }))
+      size-passed n t last (sized-passes n t (record { low = r .low; high = r .high; tolerated = few }))
       ∙ passed 11 [] (not-of-true (eq-eqb _ _ (r .whole)))
       ∙ none-left
 

@@ -16,7 +16,7 @@ use Rattle.counting.proofs.Bools.{cond-true, cond-false}
 use Rattle.counting.proofs.Build.{front-take, length-build, getD-build}
 use Rattle.counting.proofs.Count.{count-ext, count-none, count-rows, count-sum, sum-ext, sum-add}
 use Rattle.sizes.specs.Sizes.{sound}
-use Rattle.gradecast.specs.Steps.{sent1, sent2, sent3, messages}
+use Rattle.gradecast.specs.Steps.{sent1, sent2, sent3, messages, sentTo}
 use Rattle.gradecast.specs.Cast.{ofSound, cellsTo, cells}
 use Rattle.gradecast.specs.declared.Settings.{Settings}
 use Rattle.gradecast.specs.Inside.{SaidSecond, SaidThird, filled, sendsFirst}
@@ -90,6 +90,7 @@ module _ (s : Settings) (rows lists table second third : List ℕ) where
   pub messages-counted : SaidSecond s lists table second rows → SaidThird s lists table third rows →
       n * (count n (sendsFirst (s .faulty) rows) + filled (take (n * n) second) + filled (take (n * n) third)) ≡
       messages n (s .t) (s .faulty) rows lists table
+  unfolding sentTo
   messages-counted e₂ e₃ =
       ap (λ (m : ℕ). n * m)
       (ap₂ _+_ (ap₂ _+_ boxes (filled-cells n (s .faulty) _ second e₂)) (filled-cells n (s .faulty) _ third e₃)

@@ -7,7 +7,7 @@ use lib.Dec.{eqb}
 use lib.ListN.{length, getD, take, drop}
 use Rattle.counting.specs.Count.{any, count}
 use Rattle.counting.specs.Sets.{member}
-use Rattle.sizes.specs.Sizes.{tableRows, sound}
+use Rattle.sizes.specs.Sizes.{tableRows, sound, Sized}
 use Rattle.tally.specs.Tally.{voteOf, confidenceOf, gradedRow}
 use Rattle.gradecast.specs.Steps.{placeFrom, sends, hears, sent1, heard1, voted, confidence, gradeRow, messages}
 use Rattle.gradecast.specs.Cast.{ofSound, cellsTo, cells}
@@ -23,10 +23,8 @@ pub record Ready (n : ℕ) (table : List ℕ) : Type 0 where
   pub whole : length table ≡ tableRows n
 
 -- the numbers of boxes are as the steps take them: it was not refused by 4 or 5
-pub record RightSize (s : Settings) : Type 0 where
-  pub low : 1 ≤ s .n
-  pub high : s .n ≤ 13
-  pub tolerated : 3 * s .t < s .n
+abbrev pub RightSize : Settings → Type 0
+RightSize s = Sized (s .n) (s .t)
 
 -- boxes i and k, or box i and leader k, are among the n
 pub record Among (n i k : ℕ) : Type 0 where

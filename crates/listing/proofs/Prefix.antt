@@ -17,7 +17,7 @@ use Rattle.counting.proofs.Build.{build-ext}
 use Rattle.sizes.specs.Sizes.{outside, tableRows}
 use Rattle.sizes.proofs.Laws.{inside-high, table-le}
 use Rattle.runfile.specs.declared.Heading.{Heading}
-use Rattle.runfile.specs.File.{number, marked, versionOf, nOf, headingBytes, rowFrom, headingRow, tableRow}
+use Rattle.runfile.specs.File.{number, hasMark, versionOf, nOf, headingBytes, rowFrom, headingRow, tableRow}
 use Rattle.runfile.specs.Reply.{headingTests, headingRefusal, headingOf, nothingRead, headingReply, tableRefusal}
 use Rattle.runfile.proofs.Follows.{SameHeading, heading-alike}
 use Rattle.runfile.proofs.Laws.{heading-number}

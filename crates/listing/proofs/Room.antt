@@ -28,7 +28,7 @@ use Rattle.run.specs.declared.Run.{Run}
 use Rattle.run.specs.State.{startRefusal, startRun, startReply, zeros, iterateRefusal, iterateReply, after}
 use Rattle.run.specs.Legal.{Legal}
 use Rattle.run.proofs.Closed.{start-legal, closed-iterate}
-use Rattle.run.proofs.Fits.{Below, cond-below, build-below, start-below, after-below, list-below, sent-most}
+use Rattle.run.proofs.Fits.{Below, cond-below, build-below, start-below, after-below, list-below, sent-at-most}
 use Rattle.runfile.specs.File.{number, rowFrom, headingRow, tableRow}
 use Rattle.runfile.specs.Reply.{headingTests, headingRefusal, tableTests, tableRefusal}
 use Rattle.runfile.proofs.Laws.{heading-number}
@@ -291,7 +291,7 @@ module _ (bytes : List ℕ) where
       let r = reached ok (doneOf bytes) (le-refl _) in
       let s = stateAfter bytes (doneOf bytes) in
       let last = ap (λ (q : Run). q .sent) (cond-true s zeros (eq-eqb (endsWith bytes) 0 e)) in
-      omega (arith, last, sent-most s (r .legal), r .counts, done-few ok)
+      omega (arith, last, sent-at-most s (r .legal), r .counts, done-few ok)
 
   -- a file of bytes
   module _ (small : Below 256 bytes) where

@@ -18,7 +18,7 @@ use Rattle.sizes.specs.Sizes.{tableRows}
 use Rattle.sizes.proofs.Laws.{within-lt}
 use Rattle.gradecast.specs.Fair.{faultyBoxes}
 use Rattle.run.proofs.Accepted.{rows-not-zero}
-use Rattle.agreement.specs.Demand.{Setting}
+use Rattle.agreement.specs.Demand.{Premises}
 use Rattle.agreement.proofs.Agreement.{replies-keep}
 use Rattle.runfile.specs.File.{tableRow}
 use Rattle.lines.specs.Line.{lineOf}
@@ -123,7 +123,7 @@ module _ (bytes : List ℕ) where
     outcome-run = cond-true _ _ (eq-eqb _ 0 taken) ∙ ap (stateAfter bytes) all-done
 
     setting : faultyBoxes (heading bytes .n) (heading bytes .faulty) ≤ heading bytes .t →
-        Setting (heading bytes .n) (heading bytes .t) (heading bytes .faulty) (rowsOf bytes)
+        Premises (heading bytes .n) (heading bytes .t) (heading bytes .faulty) (rowsOf bytes)
         (tableOf (heading bytes .n) bytes)
     unfolding tableOf
     setting few =

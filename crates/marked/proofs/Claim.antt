@@ -59,7 +59,7 @@ use Rattle.run.specs.State.{
 use Rattle.sizes.specs.Sizes.{largestT}
 use Rattle.runfile.specs.File.{
   number,
-  marked as is-marked,
+  hasMark,
   versionOf,
   nOf,
   tByte,
@@ -136,7 +136,7 @@ unfolding sum count any build find member setOf places support before best most 
     voteRefusal sizeRefusal unless voteReply gradeReply place1 placeFrom place2 place3 sends hears heard1 heard2
     column2 voted heard3 column3 confidence gradeRow sentTo messages entry gradedRows confidences newRow newList
     nextRun startRow startRefusal startRun startReply badEntry badPlace tooManySent iterateRefusal iterateReply
-    after largestT number is-marked versionOf nOf tByte faultyOf tOf headingBytes rowFrom headingRow tableRow
+    after largestT number hasMark versionOf nOf tByte faultyOf tOf headingBytes rowFrom headingRow tableRow
     headingTests headingRefusal headingOf nothingRead headingReply tableTests tableRefusal tens decimal field fields
     lineOf orElse tableBytes tableBegins bytesOf tableOf refusedTable heading rowsOf replyAfter stateAfter
     refusedStart refusedAt due goesOn runLine atLine lastLine boxLine boxLines endedBy passed doneOf iterationLines

@@ -97,8 +97,8 @@ gradeBy t support others =
     []
 
 -- refusal and row of a vote
-abbrev pub voteBy : ℕ → List ℕ → List ℕ
-voteBy t rows = voteReply rows t .refusal ∷ voteReply rows t .row ∷ []
+abbrev pub voteGives : ℕ → List ℕ → List ℕ
+voteGives t rows = voteReply rows t .refusal ∷ voteReply rows t .row ∷ []
 
 -- the marked cases, in their order
 abbrev pub marked : List Case
@@ -132,6 +132,6 @@ marked =
     Case.gives (gradeBy 0 1 2) (6 ∷ 2 ∷ []) ∷
     Case.never (λ rows. gradeReply rows 0 .confidence) 1 ∷
     -- vote, n = 4, t = 1: rows 6, 6, 0, 6 give 6; rows 6, 6, 0, 0 give 0
-    Case.gives (voteBy 1 (6 ∷ 6 ∷ 0 ∷ 6 ∷ [])) (0 ∷ 6 ∷ []) ∷
-    Case.gives (voteBy 1 (6 ∷ 6 ∷ 0 ∷ 0 ∷ [])) (0 ∷ 0 ∷ []) ∷
+    Case.gives (voteGives 1 (6 ∷ 6 ∷ 0 ∷ 6 ∷ [])) (0 ∷ 6 ∷ []) ∷
+    Case.gives (voteGives 1 (6 ∷ 6 ∷ 0 ∷ 0 ∷ [])) (0 ∷ 0 ∷ []) ∷
     []

@@ -16,7 +16,7 @@ use Rattle.run.specs.declared.Run.{Run}
 use Rattle.run.specs.declared.Next.{Next}
 use Rattle.run.specs.State.{startRefusal, startRun, startReply, zeros, iterateReply, after}
 use Rattle.run.proofs.Blind.{start-blind, after-blind}
-use Rattle.run.proofs.Course.{none-refused}
+use Rattle.run.proofs.Course.{never-refused}
 use Rattle.run.proofs.start.Reads as StartReads
 use Rattle.run.proofs.Run.iterate.Reads as IterateReads
 
@@ -86,7 +86,7 @@ pub calls-taken : {n t faulty : ℕ} {rows : List ℕ} {tables : ℕ → List �
     ((m : ℕ) → m < t + 1 → length (tables m) ≡ tableRows n) → (m : ℕ) → m ≤ t + 1 → reply m .refusal ≡ 0
 calls-taken {n} {t} {faulty} {rows} {tables} c starts sized m l =
     ap (λ (r : Next). r .refusal) (calls-are c m)
-    ∙ none-refused n t faulty rows tables (t + 1) (le-refl _) starts sized m l
+    ∙ never-refused n t faulty rows tables (t + 1) (le-refl _) starts sized m l
 
 -- a slice of these numbers, lent
 lent : List ℕ → RefT (List ℕ)

@@ -18,17 +18,17 @@ use Rattle.run.proofs.Accepted.{start-accepted-is, accepted-is}
 use Rattle.run.proofs.Closed.{start-legal, next-legal}
 
 -- the state after m iterations of a run with this n, t and faulty set
-pub record Stands (n t faulty m : ℕ) (s : Run) : Type 0 where
+pub record Reached (n t faulty m : ℕ) (s : Run) : Type 0 where
   pub same-n : s .n ≡ n
   pub same-t : s .t ≡ t
   pub same-faulty : s .faulty ≡ faulty
   pub done-m : s .done ≡ m
   pub legal : Legal s
 
-next-stands : {n t faulty m : ℕ} {s : Run} (table : List ℕ) → Stands n t faulty m s →
-    Stands n t faulty (suc m) (nextRun s table)
+next-reached : {n t faulty m : ℕ} {s : Run} (table : List ℕ) → Reached n t faulty m s →
+    Reached n t faulty (suc m) (nextRun s table)
 unfolding nextRun
-next-stands {s = s} table h =
+next-reached {s = s} table h =
     record {
       same-n = h .same-n;
       same-t = h .same-t;
@@ -37,10 +37,10 @@ next-stands {s = s} table h =
       legal = next-legal s table (h .legal);
     }
 
-start-stands : {n t faulty : ℕ} {rows : List ℕ} → Startable n t faulty rows →
-    Stands n t faulty 0 (startRun n t faulty rows)
+start-reached : {n t faulty : ℕ} {rows : List ℕ} → Startable n t faulty rows →
+    Reached n t faulty 0 (startRun n t faulty rows)
 unfolding startRun
-start-stands {n} {t} {faulty} {rows} a =
+start-reached {n} {t} {faulty} {rows} a =
     record {
       same-n = refl;
       same-t = refl;
@@ -64,7 +64,7 @@ module _ (n t faulty : ℕ) (rows : List ℕ) (tables : ℕ → List ℕ) (last 
   state m = after (startReply n t faulty rows) tables m .run
 
   -- the state that an iteration finds passes its tests
-  passes : (m : ℕ) → m < last → Stands n t faulty m (state m) → iterateRefusal (state m) (tables m) ≡ 0
+  passes : (m : ℕ) → m < last → Reached n t faulty m (state m) → iterateRefusal (state m) (tables m) ≡ 0
   passes m l h =
       accepted-is (state m) (tables m)
       (record {
@@ -73,25 +73,25 @@ module _ (n t faulty : ℕ) (rows : List ℕ) (tables : ℕ → List ℕ) (last 
         done-few = omega (arith, h .done-m, h .same-t, most);
       })
 
-  goes-on : (m : ℕ) → m < last → Stands n t faulty m (state m) → state (suc m) ≡ nextRun (state m) (tables m)
+  goes-on : (m : ℕ) → m < last → Reached n t faulty m (state m) → state (suc m) ≡ nextRun (state m) (tables m)
   unfolding after iterateReply
   goes-on m l h =
       cond-true (nextRun (state m) (tables m)) (state m)
       (eq-eqb (iterateRefusal (state m) (tables m)) 0 (passes m l h))
 
-  pub stands : (m : ℕ) → m ≤ last → Stands n t faulty m (state m)
+  pub reached : (m : ℕ) → m ≤ last → Reached n t faulty m (state m)
   unfolding after
-  stands zero h = subst (Stands n t faulty 0) (sym (start-run starts)) (start-stands starts)
-  stands (suc m) h =
-      let before = stands m (omega arith) in
-      subst (Stands n t faulty (suc m)) (sym (goes-on m h before)) (next-stands (tables m) before)
+  reached zero h = subst (Reached n t faulty 0) (sym (start-run starts)) (start-reached starts)
+  reached (suc m) h =
+      let before = reached m (omega arith) in
+      subst (Reached n t faulty (suc m)) (sym (goes-on m h before)) (next-reached (tables m) before)
 
   -- each iteration gives the next state
   pub next-state : (m : ℕ) → m < last → state (suc m) ≡ nextRun (state m) (tables m)
-  next-state m l = goes-on m l (stands m (omega arith))
+  next-state m l = goes-on m l (reached m (omega arith))
 
   -- no call is refused
-  pub none-refused : (m : ℕ) → m ≤ last → after (startReply n t faulty rows) tables m .refusal ≡ 0
+  pub never-refused : (m : ℕ) → m ≤ last → after (startReply n t faulty rows) tables m .refusal ≡ 0
   unfolding after iterateReply startReply
-  none-refused zero h = start-accepted-is n t faulty rows starts
-  none-refused (suc m) h = passes m h (stands m (omega arith))
+  never-refused zero h = start-accepted-is n t faulty rows starts
+  never-refused (suc m) h = passes m h (reached m (omega arith))

@@ -153,9 +153,9 @@ module _ (s : Run) (legal : Legal s) where
       (bad-box (s .n) (s .faulty) k (getD (s .rows) k 0) (getD (s .lists) k 0) (is-box b)
       ∙ any-none 13 (badPlace s) (legal .pass14-places) k (omega arith))
 
-  pub sent-most : s .sent ≤ s .done * 4563
+  pub sent-at-most : s .sent ≤ s .done * 4563
   unfolding tooManySent
-  sent-most =
+  sent-at-most =
       let most = ltb-false (s .done * tableRows (s .n)) (s .sent) (legal .pass14-sent) in
       let whole = mul-le-mul-left (s .done) (table-le (inside-high (s .n) (legal .pass4))) in
       omega arith

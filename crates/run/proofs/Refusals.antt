@@ -29,7 +29,7 @@ use Rattle.run.specs.State.{
 use Rattle.run.specs.Inside.{settingRefusal}
 
 -- what passes 4, 5 and 6
-pub record Passed (n t faulty : ℕ) : Type 0 where
+pub record Allowed (n t faulty : ℕ) : Type 0 where
   pub pass4 : outside n ≡ false
   pub pass5 : tooMany n t ≡ false
   pub pass6 : stray n faulty ≡ false
@@ -38,7 +38,7 @@ pub record Passed (n t faulty : ℕ) : Type 0 where
   pub few : 3 * t < n
 
 module _ (n t faulty : ℕ) where
-  pub setting-passes : settingRefusal n t faulty ≡ 0 → Passed n t faulty
+  pub setting-passes : settingRefusal n t faulty ≡ 0 → Allowed n t faulty
   unfolding settingRefusal
   setting-passes e =
       let h4 = accepted 3 (outside n) _ e in

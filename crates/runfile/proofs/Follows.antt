@@ -16,7 +16,7 @@ use Rattle.counting.proofs.Build.{build-ext}
 use Rattle.sizes.specs.Sizes.{outside}
 use Rattle.runfile.specs.File.{
   number,
-  marked,
+  hasMark,
   versionOf,
   nOf,
   tByte,
@@ -52,8 +52,8 @@ module _ (m : ℕ) (a b : List ℕ) (h : SameHeading m a b) where
   byte-same : (i : ℕ) → i < 9 → getD a i 0 ≡ getD b i 0
   byte-same i l = h .same i (omega (arith, h .fixed))
 
-  mark-same : marked a ≡ marked b
-  unfolding marked
+  mark-same : hasMark a ≡ hasMark b
+  unfolding hasMark
   mark-same = rw (byte-same 0 (omega arith), byte-same 1 (omega arith), byte-same 2 (omega arith)) refl
 
   version-same : versionOf a ≡ versionOf b

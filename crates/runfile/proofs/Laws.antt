@@ -17,7 +17,7 @@ use Rattle.counting.proofs.Refuse.{accepted}
 use Rattle.sizes.specs.Sizes.{Startable, outside, tooMany, stray, soundZero, tableRows, largestT}
 use Rattle.sizes.proofs.Laws.{inside-low, tolerated, tolerated-lt, largest-tolerated}
 use Rattle.runfile.specs.declared.Heading.{Heading}
-use Rattle.runfile.specs.File.{marked, versionOf, nOf, tByte, tOf, faultyOf, headingBytes, headingRow, tableRow}
+use Rattle.runfile.specs.File.{hasMark, versionOf, nOf, tByte, tOf, faultyOf, headingBytes, headingRow, tableRow}
 use Rattle.counting.specs.Count.{front}
 use Rattle.runfile.specs.Reply.{
   headingTests,
@@ -35,7 +35,7 @@ use Rattle.counting.proofs.Build.{front-length}
 -- the tests that a heading passed
 pub record Readable (bytes : List ℕ) (room : ℕ) : Type 0 where
   pub long : 9 ≤ length bytes
-  pub mark : marked bytes ≡ true
+  pub mark : hasMark bytes ≡ true
   pub version : versionOf bytes ≡ 1
   pub inside : outside (nOf bytes) ≡ false
   pub few : (not (eqb (tByte bytes) 255) && tooMany (nOf bytes) (tByte bytes)) ≡ false

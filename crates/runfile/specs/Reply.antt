@@ -11,7 +11,7 @@ use Rattle.counting.specs.Refuse.Refusal.{refuse}
 use Rattle.sizes.specs.Sizes.{outside, tooMany, stray, soundZero, tableRows}
 use Rattle.runfile.specs.declared.Heading.{Heading}
 use Rattle.runfile.specs.File.{
-  marked,
+  hasMark,
   versionOf,
   nOf,
   tByte,
@@ -27,7 +27,7 @@ use Rattle.runfile.specs.File.{
 unfoldable pub headingTests : List ℕ → ℕ → List Refusal
 headingTests bytes room =
     refuse 1 (ltb (length bytes) 9) ∷
-    refuse 2 (not (marked bytes)) ∷
+    refuse 2 (not (hasMark bytes)) ∷
     refuse 3 (not (eqb (versionOf bytes) 1)) ∷
     refuse 4 (outside (nOf bytes)) ∷
     refuse 5 (not (eqb (tByte bytes) 255) && tooMany (nOf bytes) (tByte bytes)) ∷

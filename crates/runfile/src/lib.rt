@@ -8,7 +8,7 @@ ghost use lib.Dec.{eqb};
 ghost use lib.ListN.{length};
 ghost use Rattle.counting.specs.Count.{build, front};
 ghost use Rattle.sizes.specs.Sizes.{outside, tooMany, soundZero};
-ghost use Rattle.runfile.specs.File.{number, marked, nOf, tOf, headingBytes, rowFrom, headingRow};
+ghost use Rattle.runfile.specs.File.{number, hasMark, nOf, tOf, headingBytes, rowFrom, headingRow};
 ghost use Rattle.runfile.specs.Inside.{fourFrom};
 ghost use Rattle.runfile.specs.Reply.{
   headingRefusal,
@@ -72,7 +72,7 @@ fn number8(bytes: &[u8], at: usize) -> u64
 // Do the bytes begin with the mark?
 fn is_marked(bytes: &[u8]) -> bool
     requires { ⌜ 3 ≤ length (now bytes) ⌝ }
-    ensures { λ r. ⌜ r ≡ marked (now (bytes .entry)) ⌝ }
+    ensures { λ r. ⌜ r ≡ hasMark (now (bytes .entry)) ⌝ }
 {
     if bytes[0] != b'H' {
         return false;

@@ -30,7 +30,7 @@ use Rattle.counting.proofs.Bools.{
   or-false-right,
   not-false,
 }
-use Rattle.sizes.specs.Sizes.{outside, tooMany, stray, sizeRefusal, largestT, tableRows, byN}
+use Rattle.sizes.specs.Sizes.{Sized, outside, tooMany, stray, sizeRefusal, largestT, tableRows, byN}
 
 -- refusal 4, both ways
 pub inside : (n : ℕ) → 1 ≤ n → n ≤ 13 → outside n ≡ false
@@ -92,25 +92,20 @@ module _ (n t : ℕ) (rest : List Refusal) where
       let first = accepted 3 (outside n) (refuse 5 (tooMany n t) ∷ []) e in
       passed 4 _ (first .0) ∙ passed 5 rest (accepted 4 (tooMany n t) [] (first .1) .0)
 
--- what passes refusals 4 and 5
-pub record Sized (n t : ℕ) : Type 0 where
-  pub low : 1 ≤ n
-  pub high : n ≤ 13
-  pub few : 3 * t < n
-
-pub sized : (n t : ℕ) → sizeRefusal n t ≡ 0 → Sized n t
+-- what passes refusals 4 and 5, both ways
+pub passes-sized : (n t : ℕ) → sizeRefusal n t ≡ 0 → Sized n t
 unfolding sizeRefusal
-sized n t e =
+passes-sized n t e =
     let first = accepted 3 (outside n) (refuse 5 (tooMany n t) ∷ []) e in
     record {
       low = inside-low n (first .0);
       high = inside-high n (first .0);
-      few = tolerated-lt n t (accepted 4 (tooMany n t) [] (first .1) .0);
+      tolerated = tolerated-lt n t (accepted 4 (tooMany n t) [] (first .1) .0);
     }
 
 pub sized-passes : (n t : ℕ) → Sized n t → sizeRefusal n t ≡ 0
 unfolding sizeRefusal firstOf
-sized-passes n t s = rw (inside n (s .low) (s .high), tolerated n t (s .few)) refl
+sized-passes n t s = rw (inside n (s .low) (s .high), tolerated n t (s .tolerated)) refl
 
 -- a set has 16 bits: it has none at place 16 or above
 pub no-member : (set k : ℕ) → set < 65536 → 16 ≤ k → member set k ≡ false

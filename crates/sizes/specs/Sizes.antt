@@ -1,6 +1,6 @@
 -- The numbers that are allowed (docs/SCOPE.md): boxes, the tolerated, a set of boxes, the rows of a table. Boxes
 -- count from 0 here.
-use Prim.Native.Nat.{ℕ, _+_, _-_, _*_, _/_, _^_}
+use Prim.Native.Nat.{ℕ, _+_, _-_, _*_, _/_, _^_, _≤_, _<_}
 use mathlib.Core.Path.{_≡_}
 use mathlib.Core.Bool.{Bool, false, cond, not, _&&_, _||_}
 use mathlib.Core.List.{List, [], _∷_}
@@ -26,6 +26,12 @@ stray n set = leb (2 ^ n) set
 -- refusals 4 and 5, of n boxes, or n rows, and t
 unfoldable pub sizeRefusal : ℕ → ℕ → ℕ
 sizeRefusal n t = firstOf (refuse 4 (outside n) ∷ refuse 5 (tooMany n t) ∷ [])
+
+-- what passes them
+pub record Sized (n t : ℕ) : Type 0 where
+  pub low : 1 ≤ n
+  pub high : n ≤ 13
+  pub tolerated : 3 * t < n
 
 -- is box j sound, that is, not named faulty?
 unfoldable pub sound : ℕ → ℕ → Bool

@@ -10,7 +10,8 @@ use borrow.Author.Tests.{eq-eqb, le-ltb}
 use Rattle.counting.specs.Refuse.{firstOf}
 use Rattle.counting.proofs.Bools.{not-of-true, cond-false}
 use Rattle.counting.proofs.Count.{none-any}
-use Rattle.sizes.proofs.Laws.{inside, Sized, sized-passes}
+use Rattle.sizes.specs.Sizes.{Sized}
+use Rattle.sizes.proofs.Laws.{inside, sized-passes}
 use Rattle.tally.specs.declared.Voted.{Voted}
 use Rattle.tally.specs.declared.Graded.{Graded}
 use Rattle.tally.specs.declared.Chosen.{Chosen}
@@ -44,7 +45,7 @@ module _ (xs : List ℕ) (t : ℕ) (s : Sized (length xs) t) where
       ap (λ (r : Voted). r .row)
       (sym
       (vote-taken xs t (voteOf t xs)
-      (vote-passes xs t (sized-passes (length xs) t s) ∙ cond-false 7 0 (never-two t xs (s .few)))
+      (vote-passes xs t (sized-passes (length xs) t s) ∙ cond-false 7 0 (never-two t xs (s .tolerated)))
       refl))
 
   graded : _≡_ {A = Graded} (record { refusal = 0; row = gradedRow t xs; confidence = confidenceOf t xs })

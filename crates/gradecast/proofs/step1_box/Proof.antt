@@ -6,7 +6,7 @@ use native.Mathlib.Omega.{arith}
 use lib.ListN.{getD}
 use Rattle.gradecast.specs.Steps.{hears, sends, heard1}
 use Rattle.gradecast.proofs.Cells.{place-fits, Putting, put-begins, put-turn, put-fits, put-ends}
-use Rattle.gradecast.proofs.Cells.{put-nothing, put-same}
+use Rattle.gradecast.proofs.Cells.{put-skipped, put-same}
 use Rattle.gradecast.proofs.Sound.{of-faulty, of-sound}
 use Rattle.gradecast.proofs.Places.{first-fits}
 use borrow.Author.Needs.{needs}
@@ -49,7 +49,7 @@ returns : tie.Need-returns Inv-loop μ-loop
 returns c =
     let p = entry (c .before) .pre in
     let is-faulty = sym (c .before .is-member .ensures) ∙ c .if1 .taken in
-    put-nothing (p .0 .high) (p .1) _ (λ k l. of-faulty _ _ _ _ is-faulty)
+    put-skipped (p .0 .high) (p .1) _ (λ k l. of-faulty _ _ _ _ is-faulty)
 
 mul-list : tie.Need-mul-list Inv-loop μ-loop
 mul-list c = search needs

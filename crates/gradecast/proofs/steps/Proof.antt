@@ -20,7 +20,9 @@ returns : tie.Need-returns
 returns c = cast-refused _ _ _ _ _ _ _ (c .before .steps-refusal .ensures) (c .if1 .taken)
 
 all-steps-requires : tie.Need-all-steps-requires
-all-steps-requires c κs = (steps-ready _ _ _ (not-refused c), steps-sized _ _ (not-refused c))
+all-steps-requires c κs =
+    let s = c .before .before .before .args .settings in
+    (steps-ready _ _ _ (not-refused c), steps-sized s _ (not-refused c))
 
 returns-2 : tie.Need-returns-2
 returns-2 c = c .all-steps .ensures ∙ cast-taken _ _ _ _ _ _ (not-refused (c .before))

@@ -3,7 +3,7 @@
 use mathlib.Core.Path.{_≡_, sym, _∙_}
 use native.Mathlib.Omega.{arith}
 use Rattle.sizes.specs.Sizes.{sizeRefusal}
-use Rattle.sizes.proofs.Laws.{sized}
+use Rattle.sizes.proofs.Laws.{passes-sized}
 use Rattle.gradecast.proofs.Replies.{steps-fail, steps-cut, steps-pass}
 use borrow.Author.Needs.{needs}
 use Rattle.gradecast.proofs.steps_refusal.Statement.{statement}
@@ -22,7 +22,7 @@ returns c = let e = c .before .size-refusal .ensures in e ∙ steps-fail _ _ _ (
 cast-table-rows : tie.Need-cast-table-rows
 cast-table-rows c =
     let a = c .before .before .before .args in
-    omega (arith, sized (a .n) (a .t) (right-size c))
+    omega (arith, passes-sized (a .n) (a .t) (right-size c))
 
 table-rows-requires : tie.Need-table-rows-requires
 table-rows-requires c κs = search needs

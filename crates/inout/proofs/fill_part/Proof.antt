@@ -13,7 +13,7 @@ use Rattle.inout.proofs.fill_part.Statement.{statement}
 use Rattle.inout.proofs.fill_part.Tie as tie
 
 -- the place is within the part, and nothing but the part has changed
-record Filled (bytes₀ bytes : List ℕ) (at end place : ℕ) : Type 0 where
+record PartFilled (bytes₀ bytes : List ℕ) (at end place : ℕ) : Type 0 where
   low : at ≤ place
   high : place ≤ end
   long : length bytes ≡ length bytes₀
@@ -21,9 +21,9 @@ record Filled (bytes₀ bytes : List ℕ) (at end place : ℕ) : Type 0 where
   back : drop end bytes ≡ drop end bytes₀
 
 -- a read to where the part is not yet filled
-filled-on : (bytes₀ bytes came : List ℕ) (at end place next : ℕ) → Filled bytes₀ bytes at end place →
+filled-on : (bytes₀ bytes came : List ℕ) (at end place next : ℕ) → PartFilled bytes₀ bytes at end place →
     end ≤ length bytes₀ → length came ≡ length (midOf place (end - place) bytes) → place ≤ next → next ≤ end →
-    Filled bytes₀ (putMid place (end - place) bytes came) at end next
+    PartFilled bytes₀ (putMid place (end - place) bytes came) at end next
 filled-on bytes₀ bytes came at end place next w within as-many low high =
     let last = putMid place (end - place) bytes came in
     record {
@@ -41,7 +41,7 @@ filled-on bytes₀ bytes came at end place next w within as-many low high =
     }
 
 abbrev Inv-loop : tie.InvT-loop
-Inv-loop bytes₀ at end place₀ bytes place = Filled bytes₀ bytes at end place
+Inv-loop bytes₀ at end place₀ bytes place = PartFilled bytes₀ bytes at end place
 
 abbrev μ-loop : tie.MeasureT-loop
 μ-loop bytes₀ at end place₀ bytes place = end - place
@@ -63,7 +63,7 @@ last-of c =
 
 filled-of : (c : tie.After-count Inv-loop μ-loop) →
     let f = start-of c .args in
-    Filled (f .bytes .now) (last-of c) (f .at) (f .end) (head-of c .loop .place + c .count .result)
+    PartFilled (f .bytes .now) (last-of c) (f .at) (f .end) (head-of c .loop .place + c .count .result)
 filled-of c =
     let place = head-of c .loop .place in
     let end = start-of c .args .end in

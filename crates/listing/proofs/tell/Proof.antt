@@ -1,8 +1,10 @@
 -- `listing::tell` meets its contract: the last line stands behind the others, and together they are the listing.
 -- Assumes nothing.
+use mathlib.Core.Path.{subst}
 use Prim.Native.Nat.{_≤_}
 use native.Mathlib.Omega.{arith}
 use lib.ListN.{length}
+use Rattle.listing.specs.Inside.{Put}
 use Rattle.listing.proofs.Text.{put-then}
 use Rattle.listing.proofs.Whole.{with-last}
 use borrow.Author.Needs.{needs}
@@ -31,7 +33,7 @@ returns c =
     let room : last .put-last .result ≤ length (s .args .text .now) =
     omega (arith, told .1, put .1, s .pre) in
     let text = put-then (told .0 .text) (put .0) room in (
-      record { outcome = told .0 .outcome; text = rw (with-last _ _ (told .0 .outcome)) at text },
+      record { outcome = told .0 .outcome; text = subst (Put _ _ _ _) (with-last _ _ (told .0 .outcome)) text },
       omega (arith, told .1, put .1),
     )
 

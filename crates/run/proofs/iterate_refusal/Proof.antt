@@ -10,7 +10,7 @@ use Rattle.counting.proofs.Refuse.{refused, passed}
 use Rattle.sizes.specs.Sizes.{tableRows, soundZero}
 use Rattle.sizes.proofs.Laws.{by-n-inside}
 use Rattle.run.specs.declared.Run.{Run}
-use Rattle.run.proofs.Refusals.{Passed, setting-passes, iterate-fails, iterate-goes-on}
+use Rattle.run.proofs.Refusals.{Allowed, setting-passes, iterate-fails, iterate-goes-on}
 use Rattle.run.specs.Inside.{settingRefusal, lateRefusal}
 use borrow.Author.Needs.{needs}
 use Rattle.run.proofs.iterate_refusal.Statement.{statement}
@@ -29,7 +29,7 @@ state-of c = c .before .before .before .args .s
 passes : (c : tie.Else1) → settingRefusal (state-of c .n) (state-of c .t) (state-of c .faulty) ≡ 0
 passes c = sym (c .before .setting-refusal .ensures) ∙ c .if1 .left
 
-held : (c : tie.Else1) → Passed (state-of c .n) (state-of c .t) (state-of c .faulty)
+held : (c : tie.Else1) → Allowed (state-of c .n) (state-of c .t) (state-of c .faulty)
 held c = setting-passes _ _ _ (passes c)
 
 -- where the rows are tested, and where they have passed

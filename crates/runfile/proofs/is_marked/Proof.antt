@@ -6,7 +6,7 @@ use native.Mathlib.Omega.{arith}
 use lib.Dec.{eqb}
 use lib.ListN.{getD}
 use borrow.Author.Tests.{eq-eqb, ne-eqb}
-use Rattle.runfile.specs.File.{marked}
+use Rattle.runfile.specs.File.{hasMark}
 use borrow.Author.Needs.{needs}
 use Rattle.runfile.proofs.is_marked.Statement.{statement}
 use Rattle.runfile.proofs.is_marked.Tie as tie
@@ -30,14 +30,14 @@ shared-slice-read-if1 : tie.Need-shared-slice-read-if1
 shared-slice-read-if1 c = search needs
 
 returns : tie.Need-returns
-unfolding marked
+unfolding hasMark
 returns c = rw (ne-eqb (byte (c .before .before) 0) 72 (λ e. absurd (omega (arith, e, c .if1 .taken))))
 
 shared-slice-read-if2 : tie.Need-shared-slice-read-if2
 shared-slice-read-if2 c = search needs
 
 returns-2 : tie.Need-returns-2
-unfolding marked
+unfolding hasMark
 returns-2 c =
     let h = c .before .before in
     rw (is-h h, ne-eqb (byte (start-of h) 1) 78 (λ e. absurd (omega (arith, e, c .if2 .taken))))
@@ -46,7 +46,7 @@ shared-slice-read-result : tie.Need-shared-slice-read-result
 shared-slice-read-result c = search needs
 
 returns-3 : tie.Need-returns-3
-unfolding marked
+unfolding hasMark
 returns-3 c = rw (is-h (c .before .before .before), is-n (c .before))
 
 pub is-marked-spec : {M : Type 1} → statement M

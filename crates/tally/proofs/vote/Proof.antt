@@ -5,7 +5,7 @@ use Prim.Native.Nat.{_*_, _<_}
 use lib.ListN.{length}
 use Rattle.counting.proofs.Bools.{cond-false}
 use Rattle.sizes.specs.Sizes.{sizeRefusal}
-use Rattle.sizes.proofs.Laws.{sized}
+use Rattle.sizes.proofs.Laws.{passes-sized}
 use Rattle.tally.proofs.Replies.{vote-passes, vote-fails, vote-refused, vote-taken}
 use Rattle.tally.proofs.Taken.{never-two}
 use borrow.Author.Needs.{needs}
@@ -29,7 +29,7 @@ passes : (c : tie.Else1) → sizeRefusal (length (start-of c .args .rows .now)) 
 passes c = sym (c .before .size-refusal .ensures) ∙ c .if1 .left
 
 few : (c : tie.Else1) → 3 * start-of c .args .t < length (start-of c .args .rows .now)
-few c = sized _ _ (passes c) .few
+few c = passes-sized _ _ (passes c) .tolerated
 
 vote-of-requires : tie.Need-vote-of-requires
 vote-of-requires c κs = few c
