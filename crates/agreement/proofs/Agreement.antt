@@ -18,7 +18,7 @@ use Rattle.counting.proofs.Sets.{member-empty}
 use Rattle.sizes.specs.Sizes.{tableRows, Startable}
 use Rattle.sizes.proofs.Laws.{inside, tolerated, lt-within}
 use Rattle.gradecast.specs.Steps.{confidence}
-use Rattle.gradecast.specs.Fair.{SoundBox, Fair}
+use Rattle.gradecast.specs.Fair.{SoundBox, Fair, NoSoundListed, SoundRowsNotZero, Gradecast}
 use Rattle.gradecast.proofs.Properties.{gradecast}
 use Rattle.run.specs.declared.Run.{Run}
 use Rattle.run.specs.Iteration.{nextRun}
@@ -208,10 +208,39 @@ module _ (n t faulty : ℕ) (rows : List ℕ) (tables : ℕ → List ℕ) (setti
         splits-join = splits-join;
       }
 
--- demand 3, of any replies of which the first meets the contract of `start` and each next one that of `iterate`, on
--- the state before it and its table
+-- demand 3, of any replies of which the first meets the contract of `start` and each of the t + 1 that follow that of
+-- `iterate`, on the state before it and its table
 pub demand3 : {n t faulty : ℕ} {rows : List ℕ} {tables : ℕ → List ℕ} {reply : ℕ → Next} →
-    Premises n t faulty rows tables → Calls n t faulty rows tables reply → Demand3 n t faulty rows tables reply
-demand3 {n} {t} {faulty} {rows} {tables} setting calls =
-    subst (Demand3 n t faulty rows tables) (λ i m. sym (calls-are calls m) i)
-    (replies-keep n t faulty rows tables setting)
+    Premises n t faulty rows tables → Calls n t faulty rows tables (iterations t) reply →
+    Demand3 n t faulty rows tables reply
+demand3 {n} {t} {faulty} {rows} {tables} {reply} premises calls =
+    record {
+      not-refused = λ m h. by m h (λ (r : Next). r .refusal ≡ 0) (d .not-refused m h);
+      agrees = by (iterations t) (le-refl _) (λ (r : Next). SameRow n faulty (r .run .rows)) (d .agrees);
+      valid = λ v all m h. by m h (λ (r : Next). AllHold n faulty (r .run .rows) v) (d .valid v all m h);
+      never-listed = λ m h. by m h (λ (r : Next). NoSoundListed n faulty (r .run .lists)) (d .never-listed m h);
+      never-zero = λ m h. by m h (λ (r : Next). SoundRowsNotZero n faulty (r .run .rows)) (d .never-zero m h);
+      promises =
+          λ m l.
+          by m (omega arith) (λ (r : Next). Gradecast n t faulty (r .run .rows) (r .run .lists) (tables m))
+          (d .promises m l);
+      splits-join =
+          λ m l i j k si sj b.
+          by m (omega arith)
+          (λ (r : Next).
+          1 ≤ sure (r .run) m i k → sure (r .run) m j k ≡ 0 →
+          (o : ℕ) → SoundBox n faulty o → member (getD (listsAfter reply (suc m)) o 0) k ≡ true)
+          (λ counts none o so.
+          by (suc m) l (λ (r : Next). member (getD (r .run .lists) o 0) k ≡ true)
+          (d .splits-join m l i j k si sj b counts none o so));
+    }
+  where
+    d : Demand3 n t faulty rows tables (replies n t faulty rows tables)
+    d = replies-keep n t faulty rows tables premises
+
+    sure : Run → ℕ → ℕ → ℕ → ℕ
+    sure s m i k = confidence n t faulty (s .rows) (s .lists) (tables m) i k
+
+    -- what holds of the definitions' reply holds of the call's
+    by : (m : ℕ) → m ≤ iterations t → (P : Next → Type 0) → P (replies n t faulty rows tables m) → P (reply m)
+    by m h P = subst P (sym (calls-are calls m h))

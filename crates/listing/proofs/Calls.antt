@@ -1,11 +1,12 @@
 -- What is promised of a file, said of calls: of every reply of `outcome`, and every reply of `list` with the last
 -- contents of the slice, that meets the function's contract as the toolchain states it. Assumes nothing.
-use mathlib.Core.Path.{_≡_, sym, ap, ap₂, _∙_, subst}
+use mathlib.Core.Path.{_≡_, refl, sym, ap, ap₂, _∙_, subst}
 use mathlib.Core.Bool.{cond}
-use mathlib.Core.List.{List}
+use mathlib.Core.List.{List, []}
 use Prim.Native.Nat.{ℕ, _≤_}
 use lib.Dec.{ltb}
 use lib.ListN.{length}
+use Rattle.tally.proofs.Calls.{lent}
 use Rattle.gradecast.specs.Fair.{faultyBoxes}
 use Rattle.run.specs.declared.Next.{Next}
 use Rattle.lines.specs.Line.{placed}
@@ -25,6 +26,10 @@ pub data OutcomeCall : List ℕ → Next → Type 1 where
 
 pub outcome-call-is : {bytes : List ℕ} {r : Next} → OutcomeCall bytes r → r ≡ outcomeOf bytes
 outcome-call-is (OutcomeCall.call κs a r x p) = p
+
+-- there is one for every file
+pub outcome-call : (bytes : List ℕ) → OutcomeCall bytes (outcomeOf bytes)
+outcome-call bytes = OutcomeCall.call ([], tt) (lent bytes, tt) (outcomeOf bytes) (lent bytes, tt) refl
 
 -- demand 3 of a file: one that is taken and names no more boxes faulty than may be
 pub file-demand3 : {bytes : List ℕ} {r : Next} → OutcomeCall bytes r → r .refusal ≡ 0 →
@@ -46,6 +51,13 @@ pub data ListCall : List ℕ → List ℕ → Listed → List ℕ → Type 1 whe
 list-call-is : {bytes slice last : List ℕ} {r : Listed} → ListCall bytes slice r last →
     (r ≡ listReply bytes (length slice)) × (last ≡ listWrites bytes slice)
 list-call-is (ListCall.call κs a r x p) = p
+
+-- there is one for every file and every slice
+pub list-call : (bytes slice : List ℕ) →
+    ListCall bytes slice (listReply bytes (length slice)) (listWrites bytes slice)
+list-call bytes slice =
+    ListCall.call ([], ([], tt)) (lent bytes, (lent slice, tt)) (listReply bytes (length slice))
+    (lent bytes, (lent (listWrites bytes slice), tt)) (refl, refl)
 
 module _ (a b : List ℕ) (same : SameButSound a b) where
   ends-same : endsWith a ≡ endsWith b

@@ -1,13 +1,15 @@
 -- A run made of calls: the contracts of `start` and `iterate`, as the toolchain states them, of one reply after
 -- another. Each reply is then the one that the definitions give, so that what is proved of those holds of every run
--- that is made by calls. A contract that said less of its reply would not do. Assumes nothing.
+-- that is made by calls. A contract that said less of its reply would not do. And there are such runs: what the
+-- definitions give is one. Assumes nothing.
 use mathlib.Core.Path.{_≡_, refl, sym, ap, _∙_}
 use mathlib.Core.Bool.{Bool, true, false, cond}
 use mathlib.Core.List.{List, []}
 use Prim.Native.Nat.{ℕ, zero, suc, _+_, _≤_, _<_}
-use native.Mathlib.Nat.{le-refl, not-suc-le-zero}
+use native.Mathlib.Nat.{not-suc-le-zero}
+use native.Mathlib.Omega.{arith}
 use lib.ListN.{length, getD}
-use denote.Ref.{RefT}
+use Rattle.tally.proofs.Calls.{lent}
 use lib.Dec.{eqb}
 use Rattle.sizes.specs.Sizes.{tableRows, Startable}
 use Rattle.gradecast.specs.Fair.{SoundBox}
@@ -36,18 +38,20 @@ start-call-is (StartCall.call κs a r x p) = p
 pub iterate-call-is : {s : Run} {table : List ℕ} {r : Next} → IterateCall s table r → r ≡ iterateReply s table
 iterate-call-is (IterateCall.call κs a r x p) = p
 
--- a start, and then one iteration after another, each on the state before it and its own table
-pub record Calls (n t faulty : ℕ) (rows : List ℕ) (tables : ℕ → List ℕ) (reply : ℕ → Next) : Type 1 where
+-- a start, and then so many iterations, each on the state before it and its own table
+pub record Calls (n t faulty : ℕ) (rows : List ℕ) (tables : ℕ → List ℕ) (last : ℕ) (reply : ℕ → Next) : Type 1 where
   pub started : StartCall n t faulty rows (reply 0)
-  pub iterated : (m : ℕ) → IterateCall (reply m .run) (tables m) (reply (suc m))
+  pub iterated : (m : ℕ) → m < last → IterateCall (reply m .run) (tables m) (reply (suc m))
 
 -- their replies are those of the definitions
-pub calls-are : {n t faulty : ℕ} {rows : List ℕ} {tables : ℕ → List ℕ} {reply : ℕ → Next} →
-    Calls n t faulty rows tables reply → (m : ℕ) → reply m ≡ after (startReply n t faulty rows) tables m
+pub calls-are : {n t faulty : ℕ} {rows : List ℕ} {tables : ℕ → List ℕ} {last : ℕ} {reply : ℕ → Next} →
+    Calls n t faulty rows tables last reply → (m : ℕ) → m ≤ last →
+    reply m ≡ after (startReply n t faulty rows) tables m
 unfolding after
-calls-are c zero = start-call-is (c .started)
-calls-are {tables = tables} c (suc m) =
-    iterate-call-is (c .iterated m) ∙ ap (λ (r : Next). iterateReply (r .run) (tables m)) (calls-are c m)
+calls-are c zero l = start-call-is (c .started)
+calls-are {tables = tables} c (suc m) l =
+    iterate-call-is (c .iterated m l)
+    ∙ ap (λ (r : Next). iterateReply (r .run) (tables m)) (calls-are c m (omega arith))
 
 -- the state of a start has n and the faulty set that it was given, or 0 boxes, of which nothing is read
 started-lies : (n t faulty : ℕ) (rows a b : List ℕ) → SameLies n faulty a b →
@@ -72,43 +76,39 @@ calls-start-blind {n} {t} {faulty} {a} {b} p q whole same =
     start-call-is p ∙ start-blind n t faulty a b whole same ∙ sym (start-call-is q)
 
 -- runs whose tables differ in sound senders' places alone have the same replies
-pub calls-blind : {n t faulty : ℕ} {rows : List ℕ} {a b : ℕ → List ℕ} {p q : ℕ → Next} →
-    Calls n t faulty rows a p → Calls n t faulty rows b q → (m : ℕ) →
-    ((j : ℕ) → j < m → SameLies n faulty (a j) (b j) × (length (a j) ≡ length (b j))) → p m ≡ q m
-calls-blind {n} {t} {faulty} {rows} {a} {b} c d m h =
-    calls-are c m
-    ∙ after-blind (startReply n t faulty rows) a b m (λ j l. (started-lies n t faulty rows _ _ (h j l .0), h j l .1))
-    ∙ sym (calls-are d m)
+pub calls-blind : {n t faulty : ℕ} {rows : List ℕ} {a b : ℕ → List ℕ} {last : ℕ} {p q : ℕ → Next} →
+    Calls n t faulty rows a last p → Calls n t faulty rows b last q →
+    ((j : ℕ) → j < last → SameLies n faulty (a j) (b j) × (length (a j) ≡ length (b j))) →
+    (m : ℕ) → m ≤ last → p m ≡ q m
+calls-blind {n} {t} {faulty} {rows} {a} {b} c d h m l =
+    calls-are c m l
+    ∙ after-blind (startReply n t faulty rows) a b m
+    (λ j k. (started-lies n t faulty rows _ _ (h j (omega (arith, k, l)) .0), h j (omega (arith, k, l)) .1))
+    ∙ sym (calls-are d m l)
 
 -- with a start that is taken and tables of the right length no call is refused, whoever is faulty and whatever is sent
-pub calls-taken : {n t faulty : ℕ} {rows : List ℕ} {tables : ℕ → List ℕ} {reply : ℕ → Next} →
-    Calls n t faulty rows tables reply → Startable n t faulty rows →
-    ((m : ℕ) → m < t + 1 → length (tables m) ≡ tableRows n) → (m : ℕ) → m ≤ t + 1 → reply m .refusal ≡ 0
-calls-taken {n} {t} {faulty} {rows} {tables} c starts sized m l =
-    ap (λ (r : Next). r .refusal) (calls-are c m)
-    ∙ never-refused n t faulty rows tables (t + 1) (le-refl _) starts sized m l
-
--- a slice of these numbers, lent
-lent : List ℕ → RefT (List ℕ)
-lent numbers = record { ptr = (0, 0); name = 0; now = numbers }
+pub calls-taken : {n t faulty : ℕ} {rows : List ℕ} {tables : ℕ → List ℕ} {last : ℕ} {reply : ℕ → Next} →
+    Calls n t faulty rows tables last reply → last ≤ t + 1 → Startable n t faulty rows →
+    ((m : ℕ) → m < last → length (tables m) ≡ tableRows n) → (m : ℕ) → m ≤ last → reply m .refusal ≡ 0
+calls-taken {n} {t} {faulty} {rows} {tables} {last} c most starts sized m l =
+    ap (λ (r : Next). r .refusal) (calls-are c m l)
+    ∙ never-refused n t faulty rows tables last most starts sized m l
 
 -- there are such calls, with every argument: what the definitions give meets the contracts
 start-call : (n t faulty : ℕ) (rows : List ℕ) → StartCall n t faulty rows (startReply n t faulty rows)
-unfolding lent
 start-call n t faulty rows =
     StartCall.call ([], tt) (n, (t, (faulty, (lent rows, tt)))) (startReply n t faulty rows)
     (n, (t, (faulty, (lent rows, tt)))) refl
 
 iterate-call : (s : Run) (table : List ℕ) → IterateCall s table (iterateReply s table)
-unfolding lent
 iterate-call s table =
     IterateCall.call ([], tt) (s, (lent table, tt)) (iterateReply s table) (s, (lent table, tt)) refl
 
-pub calls-exist : (n t faulty : ℕ) (rows : List ℕ) (tables : ℕ → List ℕ) →
-    Calls n t faulty rows tables (after (startReply n t faulty rows) tables)
+pub calls-exist : (n t faulty : ℕ) (rows : List ℕ) (tables : ℕ → List ℕ) (last : ℕ) →
+    Calls n t faulty rows tables last (after (startReply n t faulty rows) tables)
 unfolding after
-calls-exist n t faulty rows tables =
+calls-exist n t faulty rows tables last =
     record {
       started = start-call n t faulty rows;
-      iterated = λ m. iterate-call (after (startReply n t faulty rows) tables m .run) (tables m);
+      iterated = λ m l. iterate-call (after (startReply n t faulty rows) tables m .run) (tables m);
     }
