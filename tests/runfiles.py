@@ -136,7 +136,7 @@ class Minds:
 
 
 class Liars:
-    """The sendings of the faulty boxes in one iteration, step after step, each step aimed at what the last one gave."""
+    """What the faulty boxes send in one iteration, step after step, each step aimed at what the last one gave."""
 
     def __init__(self, minds, lying, burning):
         self.minds, self.run, self.rng = minds, minds.run, minds.rng

@@ -10,12 +10,10 @@ use Prim.Native.Nat.{ℕ, zero, suc, _+_, _≤_, _<_}
 use native.Mathlib.Nat.{le-refl}
 use native.Mathlib.Omega.{arith}
 use lib.ListN.{getD}
-use borrow.Author.Tests.{eq-eqb}
 use Rattle.counting.specs.Count.{count}
 use Rattle.counting.specs.Sets.{member}
-use Rattle.counting.proofs.Bools.{cond-true}
 use Rattle.counting.proofs.Sets.{member-empty}
-use Rattle.sizes.specs.Sizes.{tableRows, Startable}
+use Rattle.sizes.specs.Sizes.{Startable}
 use Rattle.sizes.proofs.Laws.{inside, tolerated, lt-within}
 use Rattle.gradecast.specs.Steps.{confidence}
 use Rattle.gradecast.specs.Fair.{SoundBox, Fair, NoSoundListed, SoundRowsNotZero, Gradecast}

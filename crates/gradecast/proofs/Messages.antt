@@ -8,7 +8,7 @@ use Prim.Native.Nat.{ℕ, _+_, _*_, _≤_}
 use native.Mathlib.Nat.{mul-add, mul-assoc, mul-le-mul-left}
 use native.Mathlib.Omega.{arith}
 use lib.Dec.{eqb}
-use Rattle.counting.specs.Count.{sum, count}
+use Rattle.counting.specs.Count.{sum}
 use Rattle.counting.proofs.Count.{sum-ext, sum-const, sum-scale, sum-at-most, count-le}
 use Rattle.sizes.specs.Sizes.{tableRows, sound}
 use Rattle.gradecast.specs.Steps.{sent1, sent2, sent3, sentTo, messages}

@@ -53,8 +53,7 @@ pub struct Cast {
     pub confidences: [u8; 169],
 }
 
-// What a call sets for all boxes: how many there are, how many may be faulty, and which are. What else all boxes go by
-// is put here too, so that no function takes more arguments for it.
+// What a call sets for all boxes: how many there are, how many may be faulty, and which are.
 pub struct Settings {
     pub n: usize,
     pub t: u8,

@@ -1,6 +1,5 @@
 -- What a line is: its numbers can be read back, have no leading 0 but in 0 itself, and are digits, 1 to 20 of them;
--- the line stands at the front of a slice that is long enough, the rest of which stays; and no second reply meets the
--- contract. Assumes nothing.
+-- the line stands at the front of a slice that is long enough, the rest of which stays. Assumes nothing.
 use mathlib.Core.Path.{_≡_, refl, sym, ap, _∙_}
 use mathlib.Core.List.{List, [], _∷_, _++_}
 use mathlib.Core.Logic.{⊎-elim}

@@ -2,24 +2,22 @@
 -- has the same heading, which lies in the first 113 bytes; the tables that are due lie before byte 182,633; and both
 -- go on past the last table. Assumes nothing.
 use mathlib.Core.Path.{_≡_, refl, sym, ap, ap₂, subst, _∙_}
-use mathlib.Core.Bool.{not}
 use mathlib.Core.List.{List}
 use Prim.Native.Nat.{ℕ, zero, suc, _+_, _-_, _*_, _≤_, _<_}
 use native.Mathlib.Nat.{mul-le-mul, suc-mul}
 use native.Mathlib.Decide.{decLt, ℕ-discrete}
 use native.Mathlib.Omega.{arith}
-use lib.Dec.{ltb}
 use lib.ListN.{length, getD, take, drop, length-drop}
 use lib.Seq.{length-take-le, take-all, getD-take, getD-drop, ext-getD}
 use borrow.Author.Tests.{lt-ltb, ne-eqb}
 use Rattle.counting.specs.Count.{build}
 use Rattle.counting.proofs.Build.{build-ext}
-use Rattle.sizes.specs.Sizes.{outside, tableRows}
+use Rattle.sizes.specs.Sizes.{tableRows}
 use Rattle.sizes.proofs.Laws.{inside-high, table-le}
 use Rattle.runfile.specs.declared.Heading.{Heading}
-use Rattle.runfile.specs.File.{number, hasMark, versionOf, nOf, headingBytes, rowFrom, headingRow, tableRow}
-use Rattle.runfile.specs.Reply.{headingTests, headingRefusal, headingOf, nothingRead, headingReply, tableRefusal}
-use Rattle.runfile.proofs.Follows.{SameHeading, heading-alike}
+use Rattle.runfile.specs.File.{number, nOf, headingBytes, rowFrom, headingRow, tableRow}
+use Rattle.runfile.specs.Reply.{headingRefusal, nothingRead, headingReply, tableRefusal}
+use Rattle.runfile.proofs.Follows.{heading-alike}
 use Rattle.runfile.proofs.Laws.{heading-number}
 use Rattle.gradecast.specs.Lies.{SameLies}
 use Rattle.listing.specs.File.{

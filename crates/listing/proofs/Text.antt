@@ -6,7 +6,7 @@ use mathlib.Core.List.{List, [], _∷_, _++_}
 use Prim.Native.Nat.{ℕ, _+_, _-_, _^_, _≤_, _<_}
 use native.Mathlib.Nat.{add-zero}
 use native.Mathlib.Omega.{arith}
-use lib.ListN.{length, take, drop, length-append}
+use lib.ListN.{length, length-append}
 use Rattle.counting.specs.Count.{sum}
 use Rattle.lines.specs.Line.{decimal, lineOf, putReply, putWrites}
 use Rattle.lines.proofs.Decimal.{decimal-most}

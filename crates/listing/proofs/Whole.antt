@@ -14,7 +14,7 @@ use borrow.Author.Tests.{eq-eqb, ne-eqb, lt-ltb, le-ltb, ltb-false}
 use Rattle.counting.proofs.Bools.{cond-true, cond-false}
 use Rattle.run.specs.declared.Run.{Run}
 use Rattle.run.specs.declared.Next.{Next}
-use Rattle.run.specs.State.{startRun, zeros}
+use Rattle.run.specs.State.{startRun}
 use Rattle.lines.specs.Line.{placed}
 use Rattle.listing.specs.File.{tableBegins, heading, rowsOf, stateAfter, refusedStart}
 use Rattle.listing.specs.Inside.{Put, Started}

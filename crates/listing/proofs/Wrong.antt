@@ -2,20 +2,13 @@
 -- one byte. Box 9 taken for box 1, and so on with every eighth, differs at box 9; the iteration counted from 0
 -- differs at the first. Assumes nothing.
 use mathlib.Core.Path.{_≡_, ap}
-use mathlib.Core.List.{List, [], _∷_}
-use Prim.Native.Nat.{ℕ, _+_, _-_, _%_}
+use mathlib.Core.List.{List}
+use Prim.Native.Nat.{ℕ}
 use native.Mathlib.Omega.{arith}
 use lib.ListN.{getD}
 use Rattle.lines.specs.Line.{tens, decimal, field, fields, lineOf}
-use Rattle.listing.specs.Listing.{at-word, atLine}
-
--- box 9 and above taken for box 1 and above
-unfoldable pub boxesByEight : ℕ → ℕ → ℕ → ℕ → List ℕ
-boxesByEight iteration i row list = lineOf at-word (iteration ∷ (i % 8 + 1) ∷ row ∷ list ∷ [])
-
--- the iteration printed from 0
-unfoldable pub iterationsFrom0 : ℕ → ℕ → ℕ → ℕ → List ℕ
-iterationsFrom0 iteration i row list = lineOf at-word ((iteration - 1) ∷ (i + 1) ∷ row ∷ list ∷ [])
+use Rattle.listing.specs.Listing.{atLine}
+use Rattle.listing.specs.Wrong.{boxesByEight, iterationsFrom0}
 
 -- behind `at` and a space stands the iteration, and behind another space the box
 pub not-by-eight : boxesByEight 1 8 10 8 ≡ atLine 1 8 10 8 → ⊥

@@ -2,3 +2,4 @@ pub mod File
 pub mod Listing
 pub mod Files
 pub mod Inside
+pub mod Wrong

@@ -1,5 +1,5 @@
--- The listing of a run file and its outcome, as docs/SCOPE.md has them under the program and its listing. A
--- text is a list of bytes; boxes count from 0 here, and from 1 in the text.
+-- The listing of a run file and its outcome, as docs/SCOPE.md has them under the program and its listing. A text is a
+-- list of bytes; boxes count from 0 here, and from 1 in the text.
 use Prim.Native.Nat.{ℕ, zero, suc, _+_}
 use mathlib.Core.Bool.{cond, _&&_}
 use mathlib.Core.List.{List, [], _∷_, _++_}
@@ -11,7 +11,7 @@ use Rattle.run.specs.declared.Next.{Next}
 use Rattle.run.specs.State.{zeros}
 use Rattle.lines.specs.Line.{lineOf, placed}
 use Rattle.listing.specs.declared.Listed.{Listed}
-use Rattle.listing.specs.File.{orElse, heading, stateAfter, refusedStart, refusedAt, due, goesOn}
+use Rattle.listing.specs.File.{orElse, stateAfter, refusedStart, refusedAt, due, goesOn}
 
 -- the words of the lines, in bytes: run, at, sent, refused
 abbrev pub run-word : List ℕ

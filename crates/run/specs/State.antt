@@ -7,9 +7,7 @@ use lib.ListN.{length, getD, replicate}
 use Rattle.counting.specs.Count.{any, build}
 use Rattle.counting.specs.Refuse.{firstOf}
 use Rattle.counting.specs.Refuse.Refusal.{refuse}
-use Rattle.sizes.specs.Sizes.{outside, tooMany, stray, tableRows}
-pub use Rattle.sizes.specs.Sizes.{soundZero}
-use Rattle.sizes.specs.Sizes.{sound}
+use Rattle.sizes.specs.Sizes.{outside, tooMany, stray, sound, soundZero, tableRows}
 use Rattle.run.specs.declared.Run.{Run}
 use Rattle.run.specs.declared.Next.{Next}
 use Rattle.run.specs.Iteration.{entry, nextRun}

@@ -1,6 +1,5 @@
 -- What the readers' replies say: a read that is not refused passed every test, an accepted heading is what a start
--- takes, a refused read leaves the slice, the slice keeps its length, and no second reply meets the contract. Assumes
--- nothing.
+-- takes, a refused read leaves the slice, and the slice keeps its length. Assumes nothing.
 use mathlib.Core.Path.{_≡_, refl, sym, ap, _∙_}
 use mathlib.Core.Bool.{Bool, true, false, not, cond, _&&_}
 use mathlib.Core.List.{List}

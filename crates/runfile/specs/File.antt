@@ -16,7 +16,7 @@ number bytes at (suc size) = number bytes at size * 256 + getD bytes (at + size)
 unfoldable pub hasMark : List ℕ → Bool
 hasMark bytes = eqb (getD bytes 0 0) 72 && eqb (getD bytes 1 0) 78 && eqb (getD bytes 2 0) 66
 
--- version in 16 bits, n in 8 and t in 8, which is a byte each, faulty set in 16
+-- version in 16 bits
 unfoldable pub versionOf : List ℕ → ℕ
 versionOf bytes = number bytes 3 2
 
