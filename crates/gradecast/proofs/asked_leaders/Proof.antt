@@ -1,5 +1,6 @@
 -- `gradecast::asked_leaders` meets its contract: to ask all is always enough, and to ask the faulty ones is where the
 -- two tests say that few are faulty and that no other box is odd. Assumes nothing.
+use mathlib.Core.Path.{_≡_}
 use native.Mathlib.Omega.{arith}
 use Rattle.gradecast.proofs.Asked.{all-asked, faulty-asked}
 use borrow.Author.Needs.{needs}
@@ -23,7 +24,9 @@ returns-2 : tie.Need-returns-2
 returns-2 c =
     let few = c .before .before in
     let found = few .before in
-    faulty-asked _ _ (start found .pre) (omega (arith, found .faulty-boxes .ensures, few .if1 .left)) (c .if2 .taken)
+    let a = start found .args in
+    let same : a .odd ≡ a .settings .faulty = omega (arith, c .if2 .taken) in
+    faulty-asked _ _ (start found .pre) (omega (arith, found .faulty-boxes .ensures, few .if1 .left)) same
 
 returns-3 : tie.Need-returns-3
 returns-3 c = all-asked _ _ (start (c .before .before .before) .pre .high)
