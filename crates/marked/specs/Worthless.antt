@@ -15,10 +15,9 @@ use Rattle.run.specs.State.{startReply, iterateReply}
 abbrev pub refusing : ℕ → Run → Next
 refusing number s = record { refusal = number; run = s }
 
--- one that yields a fixed row: the right reply, but every sound box holds v
-unfoldable pub fixedRow : ℕ → Run → List ℕ → Next
-fixedRow v s table =
-    let r = iterateReply s table in
+-- a reply with another number of messages and other rows
+abbrev pub altered : Next → ℕ → List ℕ → Next
+altered r sent rows =
     record {
       refusal = r .refusal;
       run =
@@ -27,11 +26,17 @@ fixedRow v s table =
             t = r .run .t;
             faulty = r .run .faulty;
             done = r .run .done;
-            sent = r .run .sent;
-            rows = build 13 (entry (r .run .n) (r .run .faulty) (λ i. v));
+            sent = sent;
+            rows = rows;
             lists = r .run .lists;
           };
     }
+
+-- one that yields a fixed row: the right reply, but every sound box holds v
+unfoldable pub fixedRow : ℕ → Run → List ℕ → Next
+fixedRow v s table =
+    let r = iterateReply s table in
+    altered r (r .run .sent) (build 13 (entry (r .run .n) (r .run .faulty) (λ i. v)))
 
 -- one that hands the state straight back
 abbrev pub handedBack : Run → List ℕ → Next
@@ -62,19 +67,7 @@ firstOnly s table = cond (eqb (s .done) 0) (iterateReply s table) (raised s)
 unfoldable pub invented : (ℕ → ℕ → ℕ → ℕ) → Run → List ℕ → Next
 invented number s table =
     let r = iterateReply s table in
-    record {
-      refusal = r .refusal;
-      run =
-          record {
-            n = r .run .n;
-            t = r .run .t;
-            faulty = r .run .faulty;
-            done = r .run .done;
-            sent = s .sent + number (s .n) (s .t) (s .faulty);
-            rows = r .run .rows;
-            lists = r .run .lists;
-          };
-    }
+    altered r (s .sent + number (s .n) (s .t) (s .faulty)) (r .run .rows)
 
 -- the replies of a run in which such a build makes the iterations: n = 4, t = 1, box 4 faulty
 unfoldable pub runBy : (Run → List ℕ → Next) → List ℕ → (ℕ → List ℕ) → ℕ → Next

@@ -23,9 +23,12 @@ Inv-loop hall lists table third heard₀ rows₀ confidences₀ n i₀ heard row
 abbrev μ-loop : tie.MeasureT-loop
 μ-loop hall lists table third heard₀ rows₀ confidences₀ n i₀ heard rows confidences i = hall .settings .n - i
 
--- the entry, from the loop's beginning
+-- where the senders are put down, from the loop's beginning, and the entry
+abbrev put-down : tie.After-slice-known4 Inv-loop μ-loop → tie.After-hear-plain Inv-loop μ-loop
+put-down c = c .before .before
+
 abbrev start : tie.After-slice-known4 Inv-loop μ-loop → tie.Start Inv-loop μ-loop
-start c = c .before .before .before .before .before .before .before .before
+start c = put-down c .before .before .before .before .before .before
 
 -- the box, from a turn's end
 abbrev box : tie.After-slice-known7 Inv-loop μ-loop → tie.After-step4-box Inv-loop μ-loop

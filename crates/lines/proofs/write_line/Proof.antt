@@ -19,12 +19,12 @@ use Rattle.lines.proofs.write_line.Reads as Reads
 abbrev start-of : tie.After-too-short → tie.Start
 start-of c = c .before .before .before .before
 
--- where the word and the numbers are written, too
-abbrev else-of : tie.After-slice-known3 → tie.Else1
-else-of c = c .before .before .before .before .before .before .before .before
-
+-- where the word is written, from where the numbers are, and where there is room
 abbrev copied-of : tie.After-slice-known3 → tie.After-copy
 copied-of c = c .before .before .before .before .before .before
+
+abbrev else-of : tie.After-slice-known3 → tie.Else1
+else-of c = copied-of c .before .before
 
 abbrev first-of : tie.After-slice-known3 → tie.Start
 first-of c = start-of (else-of c .before)
