@@ -87,9 +87,8 @@ record Computed : Type 0 where
   iterated : caseS 1 .refusal ≡ 0
   done0 : caseS 0 .run .done ≡ 0
   done1 : caseS 1 .run .done ≡ 1
-  sent0 : caseS 0 .run .sent ≡ 0
-  sent1 : caseS 1 .run .sent ≡ 100
-  sent2 : caseS 2 .run .sent ≡ 184
+  messages1 : caseS 1 .run .sent ≡ 100
+  messages2 : caseS 2 .run .sent ≡ 184
   row0 : getD (caseS 1 .run .rows) 0 0 ≡ 10
   row1 : getD (caseS 1 .run .rows) 1 0 ≡ 20
   last1 : getD (caseS 2 .run .rows) 1 0 ≡ 10
@@ -100,7 +99,7 @@ record Computed : Type 0 where
   choice6 : choiceReply (6 ∷ []) (2 ∷ []) ≡ record { refusal = 0; row = 6; firm = 1 }
   choice7 : choiceReply (7 ∷ []) (2 ∷ []) ≡ record { refusal = 0; row = 7; firm = 1 }
 
--- what two of the builds give, for every fixed row and every invented number
+-- what three of the builds give, for every fixed row and every invented number
 record ComputedBy (v : ℕ) (number : ℕ → ℕ → ℕ → ℕ) : Type 0 where
   fixed0 : getD (fixedRow v (caseS 0 .run) liesOfS .run .rows) 0 0 ≡ v
   fixed1 : getD (fixedRow v (caseS 0 .run) liesOfS .run .rows) 1 0 ≡ v
@@ -125,9 +124,8 @@ computed =
       iterated = refl;
       done0 = refl;
       done1 = refl;
-      sent0 = refl;
-      sent1 = refl;
-      sent2 = refl;
+      messages1 = refl;
+      messages2 = refl;
       row0 = refl;
       row1 = refl;
       last1 = refl;
@@ -272,4 +270,4 @@ not-invented number c d =
     let by = computed-by 0 number in
     let one = ap (λ (r : Next). r .run .sent) (iterate-call-is c) in
     let two = ap (λ (r : Next). r .run .sent) (iterate-call-is d) in
-    omega (arith, by .first, by .second, one, two, computed .sent1, computed .sent2)
+    omega (arith, by .first, by .second, one, two, computed .messages1, computed .messages2)
