@@ -1,6 +1,7 @@
 -- What belongs to no one function.
 pub mod Sender
 pub mod Text
+pub mod Behind
 pub mod Heading
 pub mod Table
 pub mod Iterations
