@@ -10,9 +10,10 @@ table-begins-requires c κs = search needs
 
 returns : tie.Need-returns
 returns c =
-    let s = c .before in
-    (begins-inside _ _ _ (c .table-begins .ensures) (s .pre .0) (s .pre .1),
-    begins-most _ _ _ (c .table-begins .ensures) (s .pre .0) (s .pre .1) (s .pre .2))
+    let s = c .before in (
+      begins-inside _ _ _ (c .table-begins .ensures) (s .pre .0) (s .pre .1),
+      begins-most _ _ _ (c .table-begins .ensures) (s .pre .0) (s .pre .1) (s .pre .2),
+    )
 
 pub begins-spec : {M : Type 1} → statement M
 begins-spec = tie.close (tie.spec table-begins-requires returns)
