@@ -4,3 +4,4 @@ pub mod Placed
 pub mod Lines
 pub mod Laws
 pub mod Put
+pub mod Pieces
