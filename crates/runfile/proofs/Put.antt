@@ -9,8 +9,8 @@ use native.Mathlib.Omega.{arith}
 use lib.ListN.{length, getD, take, drop, set, length-append, length-drop, take-append-drop}
 use lib.Seq.{length-take-le, take-at, drop-at, drop-drop, sets-eq}
 use Rattle.runfile.specs.File.{inBytes, rowsInBytes}
-use Rattle.runfile.specs.Inside.{putFrom, firstNine}
-use Rattle.runfile.specs.Write.{headingFile, atFront}
+use Rattle.runfile.specs.Inside.{firstNine}
+use Rattle.runfile.specs.Write.{putFrom, headingFile, atFront}
 
 -- so many bytes
 pub length-in-bytes : (size value : ℕ) → length (inBytes size value) ≡ size

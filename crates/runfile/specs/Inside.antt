@@ -1,7 +1,7 @@
 -- What a private function says of its part of the work. No promise of the crate names it.
 use Prim.Native.Nat.{ℕ, _+_}
 use mathlib.Core.List.{List, _∷_, _++_}
-use lib.ListN.{length, take, drop, set}
+use lib.ListN.{set}
 use Rattle.runfile.specs.File.{number, inBytes, mark, theVersion}
 
 -- a slice with four rows of 8 bytes written from place k on
@@ -14,10 +14,6 @@ fourFrom bytes place rows k =
     (number bytes (place + 16) 8))
     (k + 3)
     (number bytes (place + 24) 8)
-
--- a slice with a text written from a place on, the rest of which stays
-unfoldable pub putFrom : ℕ → List ℕ → List ℕ → List ℕ
-putFrom at text slice = take at slice ++ (text ++ drop (at + length text) slice)
 
 -- the heading's 9 bytes before its rows
 unfoldable pub firstNine : ℕ → ℕ → ℕ → List ℕ

@@ -1,11 +1,11 @@
 -- The writer of run files: the bytes of a heading and of a table, the writer's refusals in their order, its replies,
 -- and the last contents of the lent slice. The bytes stand at the front of the slice and the rest stays. A refused
 -- call writes nothing and gives size 0. The t that is written is a real one: 255 is too large for every n.
-use Prim.Native.Nat.{ℕ, _*_}
+use Prim.Native.Nat.{ℕ, _+_, _*_}
 use mathlib.Core.Bool.{cond, not}
 use mathlib.Core.List.{List, [], _∷_, _++_}
 use lib.Dec.{eqb, ltb}
-use lib.ListN.{length, drop}
+use lib.ListN.{length, take, drop}
 use Rattle.counting.specs.Refuse.{Refusal, firstOf}
 use Rattle.counting.specs.Refuse.Refusal.{refuse}
 use Rattle.sizes.specs.Sizes.{outside, tooMany, stray, soundZero, tableRows}
@@ -24,6 +24,10 @@ tableFile n rows = rowsInBytes rows (tableRows n)
 -- a slice with a text at its front, the rest of which stays
 unfoldable pub atFront : List ℕ → List ℕ → List ℕ
 atFront text slice = text ++ drop (length text) slice
+
+-- a slice with a text written from a place on, the rest of which stays
+unfoldable pub putFrom : ℕ → List ℕ → List ℕ → List ℕ
+putFrom at text slice = take at slice ++ (text ++ drop (at + length text) slice)
 
 -- the heading writer's refusals: 4, 5, 6, 11, 9, 10; `room` is the length of the lent slice
 unfoldable pub writeHeadingTests : ℕ → ℕ → ℕ → List ℕ → ℕ → List Refusal
@@ -77,3 +81,11 @@ writeTableReply n rows room = wroteReply (writeTableRefusal n rows room) (8 * ta
 -- the slice after the table writer
 unfoldable pub writeTableWrites : ℕ → List ℕ → List ℕ → List ℕ
 writeTableWrites n rows slice = wroteSlice (writeTableRefusal n rows (length slice)) (tableFile n rows) slice
+
+-- the refusal of one row that is written at a place: 10 where the slice ends before its 8 bytes do
+unfoldable pub rowRefusal : ℕ → ℕ → ℕ
+rowRefusal at room = cond (ltb room (at + 8)) 10 0
+
+-- the slice after that row
+unfoldable pub rowWrites : ℕ → ℕ → List ℕ → List ℕ
+rowWrites row at slice = cond (ltb (length slice) (at + 8)) slice (putFrom at (inBytes 8 row) slice)

@@ -4,6 +4,7 @@ mod write;
 
 pub use write::Wrote;
 pub use write::write_heading;
+pub use write::write_row;
 pub use write::write_table;
 ghost use mathlib.Core.Path.{_≡_};
 ghost use mathlib.Core.List.{List};

@@ -5,8 +5,9 @@ ghost use Prim.Native.Nat.{_+_, _*_, _%_, _≤_};
 ghost use lib.ListN.{length};
 ghost use Rattle.sizes.specs.Sizes.{soundZero};
 ghost use Rattle.runfile.specs.File.{inBytes, rowsInBytes};
-ghost use Rattle.runfile.specs.Inside.{putFrom, firstNine};
+ghost use Rattle.runfile.specs.Inside.{firstNine};
 ghost use Rattle.runfile.specs.Write.{
+  putFrom,
   atFront,
   writeHeadingRefusal,
   writeHeadingReply,
@@ -14,6 +15,8 @@ ghost use Rattle.runfile.specs.Write.{
   writeTableRefusal,
   writeTableReply,
   writeTableWrites,
+  rowRefusal,
+  rowWrites,
 };
 use crate::is_outside;
 
@@ -157,4 +160,19 @@ pub fn write_table(n: u8, rows: &[u64], out: &mut [u8]) -> Wrote
     put_rows(rows, 0, out);
     let size = 8 * rows.len();
     Wrote { refusal: 0, size }
+}
+
+// Writes the 8 bytes of one row at a place of the slice. Refusal 10.
+pub fn write_row(row: u64, at: usize, out: &mut [u8]) -> u8
+    ensures { λ r. ⌜ r ≡ rowRefusal at (length (now (out .entry))) ⌝ }
+    ensures { λ r. ⌜ now (out .exit) ≡ rowWrites row at (now (out .entry)) ⌝ }
+{
+    if out.len() < 8 {
+        return 10;
+    }
+    if out.len() - 8 < at {
+        return 10;
+    }
+    put_row(row, at, out);
+    0
 }

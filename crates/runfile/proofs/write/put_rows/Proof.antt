@@ -1,10 +1,10 @@
 -- `runfile::write::put_rows` meets its contract: after k turns the bytes of the first k rows stand from the place on, and
 -- the slice keeps its length. What is left of the rows falls. Assumes nothing.
 use mathlib.Core.Path.{_≡_, refl, sym, ap, _∙_}
+use Rattle.runfile.specs.Write.{putFrom}
 use Prim.Native.Nat.{ℕ, _+_, _*_, _-_, _≤_}
 use native.Mathlib.Omega.{arith}
 use lib.ListN.{length}
-use Rattle.runfile.specs.Inside.{putFrom}
 use Rattle.runfile.specs.File.{rowsInBytes}
 use Rattle.runfile.proofs.Put.{put-none, put-turn}
 use borrow.Author.Needs.{needs}
