@@ -26,6 +26,9 @@ pub record Progress : Type 0 where
   pub maker : Maker
   pub file : List ℕ
 
+abbrev pub progress : Maker → List ℕ → Progress
+progress m file = record { maker = m; file = file }
+
 -- nothing is known yet
 unfoldable pub noText : Maker
 noText = record { stage = 0; n = 0; t = 0; faulty = 0; lines = 0; kept = 0; refusal = 0; fault = 0 }
@@ -78,11 +81,11 @@ reached m stage n t faulty =
 
 -- a line that is not understood, with the number of its sentence
 unfoldable pub notUnderstood : Progress → ℕ → Progress
-notUnderstood s fault = record { maker = settled (s .maker) (s .maker .refusal) fault; file = s .file }
+notUnderstood s fault = progress (settled (s .maker) (s .maker .refusal) fault) (s .file)
 
 -- a refusal
 unfoldable pub isRefused : Progress → ℕ → Progress
-isRefused s refusal = record { maker = settled (s .maker) refusal (s .maker .fault); file = s .file }
+isRefused s refusal = progress (settled (s .maker) refusal (s .maker .fault)) (s .file)
 
 -- the line begins with `#`
 unfoldable pub isComment : List ℕ → Bool
@@ -108,12 +111,9 @@ hasWord line size word = eqb size (length word) && not (any size (differ line wo
 unfoldable pub runTaken : Progress → Bool → List ℕ → Progress
 runTaken s named numbers =
     cond (named && eqb (length numbers) 3)
-    (record {
-      maker =
-          reached (s .maker) 1 (min (getD numbers 0 0) 255) (min (getD numbers 1 0) 255)
-          (min (getD numbers 2 0) 65535);
-      file = s .file;
-    })
+    (progress
+    (reached (s .maker) 1 (min (getD numbers 0 0) 255) (min (getD numbers 1 0) 255) (min (getD numbers 2 0) 65535))
+    (s .file))
     (notUnderstood s 3)
 
 -- the length of a run file, or 0 where n and t are refused
@@ -138,10 +138,8 @@ rowsTaken s named rows =
     let refusal = rowsRefusal (s .maker) rows (length (s .file)) in
     cond named
     (cond (eqb refusal 0)
-    (record {
-      maker = reached (s .maker) 2 (s .maker .n) (s .maker .t) (s .maker .faulty);
-      file = placed (s .file) 0 (emptyFile (s .maker) rows);
-    })
+    (progress (reached (s .maker) 2 (s .maker .n) (s .maker .t) (s .maker .faulty))
+    (placed (s .file) 0 (emptyFile (s .maker) rows)))
     (isRefused s refusal))
     (notUnderstood s 4)
 
@@ -149,7 +147,7 @@ rowsTaken s named rows =
 unfoldable pub rowSaid : Progress → ℕ → ℕ → Progress
 rowSaid s at row =
     cond (eqb (rowRefusal at (length (s .file))) 0)
-    (record { maker = s .maker; file = rowWrites row at (s .file) })
+    (progress (s .maker) (rowWrites row at (s .file)))
     (isRefused s (rowRefusal at (length (s .file))))
 
 -- a line `say`
@@ -183,4 +181,4 @@ lineTaken s line =
 
 -- one more line of the text
 unfoldable pub lineEnded : Progress → List ℕ → Progress
-lineEnded s line = lineTaken (record { maker = afterLine (s .maker); file = s .file }) line
+lineEnded s line = lineTaken (progress (afterLine (s .maker)) (s .file)) line

@@ -7,13 +7,16 @@ use lib.ListN.{length, set, take}
 use Rattle.sizes.specs.Sizes.{sizeRefusal}
 use Rattle.making.specs.declared.Maker.{Maker}
 use Rattle.making.specs.declared.Made.{Made}
-use Rattle.making.specs.Make.{Progress, noText, oneMore, settled, fileBytes, lineEnded}
+use Rattle.making.specs.Make.{Progress, progress, noText, oneMore, settled, fileBytes, lineEnded}
 
 -- a maker, the unfinished line and the file so far
 pub record Reading : Type 0 where
   pub maker : Maker
   pub line : List ℕ
   pub file : List ℕ
+
+abbrev pub reading : Maker → List ℕ → List ℕ → Reading
+reading m line file = record { maker = m; line = line; file = file }
 
 -- the maker with so many bytes of the unfinished line kept
 unfoldable pub keeping : Maker → ℕ → Maker
@@ -32,21 +35,18 @@ keeping m kept =
 -- a byte behind those that are kept, where the line has a place for it
 unfoldable pub byteKept : Reading → ℕ → Reading
 byteKept s byte =
-    record {
-      maker = keeping (s .maker) (cond (ltb (s .maker .kept) (length (s .line))) (s .maker .kept + 1) (s .maker .kept));
-      line = set (s .line) (s .maker .kept) byte;
-      file = s .file;
-    }
+    let kept = s .maker .kept in
+    reading (keeping (s .maker) (cond (ltb kept (length (s .line))) (kept + 1) kept)) (set (s .line) kept byte) (s .file)
 
 -- the unfinished line ends
 unfoldable pub lineOver : Maker → List ℕ → List ℕ → Progress
-lineOver m line file = lineEnded (record { maker = m; file = file }) (take (m .kept) line)
+lineOver m line file = lineEnded (progress m file) (take (m .kept) line)
 
 -- a newline
 unfoldable pub newline : Reading → Reading
 newline s =
     let after = lineOver (s .maker) (s .line) (s .file) in
-    record { maker = after .maker; line = s .line; file = after .file }
+    reading (after .maker) (s .line) (after .file)
 
 -- one byte of the text; nothing changes where the outcome is settled
 unfoldable pub byteTaken : Reading → ℕ → Reading
@@ -60,9 +60,9 @@ bytesTaken s (byte ∷ text) = bytesTaken (byteTaken s byte) text
 -- the call for one more piece: refusal 10 where the line has not 1,001 places, one more than a line may have bytes
 unfoldable pub takeReply : Maker → List ℕ → List ℕ → List ℕ → Reading
 takeReply m text line file =
-    cond (leb 3 (m .stage)) (record { maker = m; line = line; file = file })
-    (cond (ltb (length line) 1001) (record { maker = settled m 10 (m .fault); line = line; file = file })
-    (bytesTaken (record { maker = m; line = line; file = file }) text))
+    cond (leb 3 (m .stage)) (reading m line file)
+    (cond (ltb (length line) 1001) (reading (settled m 10 (m .fault)) line file)
+    (bytesTaken (reading m line file) text))
 
 -- the outcome of a maker that is settled
 unfoldable pub settledAs : Maker → Made
@@ -94,7 +94,7 @@ outcomeBy m room =
 
 -- the last line, where it lacks its newline
 unfoldable pub leftLine : Maker → List ℕ → List ℕ → Progress
-leftLine m line file = cond (eqb (m .kept) 0) (record { maker = m; file = file }) (lineOver m line file)
+leftLine m line file = cond (eqb (m .kept) 0) (progress m file) (lineOver m line file)
 
 -- the call for the end of the text
 unfoldable pub finishReply : Maker → List ℕ → List ℕ → Made
@@ -123,7 +123,7 @@ linesTaken s (line ∷ lines) = cond (leb 3 (s .maker .stage)) s (linesTaken (li
 
 -- what is known after a whole text, from nothing, with a slice for the file
 unfoldable pub textTaken : List ℕ → List ℕ → Progress
-textTaken text file = linesTaken (record { maker = noText; file = file }) (linesOf text)
+textTaken text file = linesTaken (progress noText file) (linesOf text)
 
 -- the outcome of a whole text
 unfoldable pub madeOf : List ℕ → List ℕ → Made
