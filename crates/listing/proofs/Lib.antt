@@ -10,5 +10,6 @@ pub mod Alike
 pub mod Calls
 pub mod Prefix
 pub mod Taken
+pub mod Ends
 pub mod Room
 pub mod Wrong

@@ -1,10 +1,10 @@
 -- What the writer's replies say: a call that is not refused passed every test, and every call that passes them is not
 -- refused; a refused call leaves the slice and gives size 0; another gives the number of bytes and writes them at the
 -- front; the slice keeps its length, and the bytes past those written stay. Assumes nothing.
-use mathlib.Core.Path.{_≡_, refl, sym, ap, _∙_}
+use mathlib.Core.Path.{_≡_, sym, ap, _∙_}
 use mathlib.Core.Bool.{false}
 use mathlib.Core.List.{List, []}
-use Prim.Native.Nat.{ℕ, _+_, _*_, _≤_}
+use Prim.Native.Nat.{ℕ, _*_, _≤_}
 use native.Mathlib.Decide.{ℕ-discrete}
 use native.Mathlib.Omega.{arith}
 use lib.ListN.{length, take, drop, length-append, length-drop}

@@ -1,5 +1,5 @@
--- `runfile::write::has_zero_row` meets its contract: a turn ends the search at a sound box's zero row, and otherwise none of
--- the first k + 1 is one. What is left of n falls. Assumes nothing.
+-- `runfile::write::has_zero_row` meets its contract: a turn ends the search at a sound box's zero row, and otherwise
+-- none of the first k + 1 is one. What is left of n falls. Assumes nothing.
 use mathlib.Core.Bool.{_&&_}
 use Prim.Native.Nat.{_-_}
 use native.Mathlib.Omega.{arith}

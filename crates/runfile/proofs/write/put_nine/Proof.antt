@@ -1,5 +1,5 @@
--- `runfile::write::put_nine` meets its contract: nine stores, side by side from the first place on; the faulty set has 16
--- bits, so that its first byte is all that is above its last. Assumes nothing.
+-- `runfile::write::put_nine` meets its contract: nine stores, side by side from the first place on; the faulty set
+-- has 16 bits, so that its first byte is all that is above its last. Assumes nothing.
 use mathlib.Core.Path.{_≡_}
 use mathlib.Core.List.{List, [], _∷_}
 use Prim.Native.Nat.{ℕ, _/_, _%_}

@@ -1,5 +1,5 @@
--- `runfile::write::put_row` meets its contract: the definition takes the last byte of the row, of the row by 256, of that
--- by 256 again, and so on; each of these is one division by a power of 256. The eight stores stand side by side.
+-- `runfile::write::put_row` meets its contract: the definition takes the last byte of the row, of the row by 256, of
+-- that by 256 again, and so on; each of these is one division by a power of 256. The eight stores stand side by side.
 -- Assumes nothing.
 use native.Mathlib.Omega.{arith}
 use lib.ListN.{length-set}

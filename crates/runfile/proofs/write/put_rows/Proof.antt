@@ -1,8 +1,8 @@
--- `runfile::write::put_rows` meets its contract: after k turns the bytes of the first k rows stand from the place on, and
--- the slice keeps its length. What is left of the rows falls. Assumes nothing.
-use mathlib.Core.Path.{_≡_, refl, sym, ap, _∙_}
+-- `runfile::write::put_rows` meets its contract: after k turns the bytes of the first k rows stand from the place on,
+-- and the slice keeps its length. What is left of the rows falls. Assumes nothing.
+use mathlib.Core.Path.{_≡_, refl, _∙_}
+use Prim.Native.Nat.{_-_, _≤_}
 use Rattle.runfile.specs.Write.{putFrom}
-use Prim.Native.Nat.{ℕ, _+_, _*_, _-_, _≤_}
 use native.Mathlib.Omega.{arith}
 use lib.ListN.{length}
 use Rattle.runfile.specs.File.{rowsInBytes}

@@ -1,20 +1,13 @@
--- `runfile::write::write_heading` meets its contract: the refusal is made first, and a heading that is not refused has n
--- rows and room in the slice. Nine bytes are written at the front and the rows behind them. Assumes nothing.
+-- `runfile::write::write_heading` meets its contract: the refusal is made first, and a heading that is not refused has
+-- n rows and room in the slice. Nine bytes are written at the front and the rows behind them. Assumes nothing.
 use mathlib.Core.Path.{_≡_, sym, ap, _∙_}
 use mathlib.Core.List.{List, [], _++_}
 use Prim.Native.Nat.{ℕ, _+_, _*_, _≤_}
 use native.Mathlib.Omega.{arith}
 use lib.ListN.{length}
-use Rattle.runfile.specs.declared.write.Wrote.{Wrote}
 use Rattle.runfile.specs.File.{headingBytes, rowsInBytes}
 use Rattle.runfile.specs.Inside.{firstNine}
-use Rattle.runfile.specs.Write.{
-  headingFile,
-  atFront,
-  writeHeadingRefusal,
-  writeHeadingReply,
-  writeHeadingWrites,
-}
+use Rattle.runfile.specs.Write.{atFront, writeHeadingRefusal, writeHeadingReply, writeHeadingWrites}
 use Rattle.runfile.proofs.Put.{length-rows-in-bytes, length-nine, nine-then-rows, put-behind}
 use Rattle.runfile.proofs.Written.{
   HeadingWritten,

@@ -1,7 +1,7 @@
 -- `runfile::write::write_heading_refusal` meets its contract: it makes the tests of refusals 4, 5, 6, 11, 9 and 10 in
 -- their order. What is left of the list of tests is followed from one to the next. Assumes nothing.
 use mathlib.Core.Path.{_≡_, sym, _∙_}
-use mathlib.Core.List.{List, []}
+use mathlib.Core.List.{[]}
 use Prim.Native.Nat.{ℕ, _≤_}
 use native.Mathlib.Omega.{arith}
 use lib.ListN.{drop}

@@ -1,12 +1,11 @@
 -- `runfile::write::write_table` meets its contract: the refusal is made first, and a table that is not refused has its
 -- exact number of rows and room in the slice; its rows are written from the first place on. Assumes nothing.
 use mathlib.Core.Path.{_≡_, sym, ap, _∙_}
-use mathlib.Core.List.{List, []}
+use mathlib.Core.List.{[]}
 use Prim.Native.Nat.{ℕ, _*_}
 use native.Mathlib.Omega.{arith}
 use lib.ListN.{length}
 use Rattle.sizes.specs.Sizes.{tableRows}
-use Rattle.runfile.specs.declared.write.Wrote.{Wrote}
 use Rattle.runfile.specs.File.{rowsInBytes}
 use Rattle.runfile.specs.Write.{tableFile, atFront, writeTableRefusal, writeTableReply, writeTableWrites}
 use Rattle.runfile.proofs.Put.{put-front}
