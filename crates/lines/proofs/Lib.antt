@@ -5,3 +5,4 @@ pub mod Lines
 pub mod Laws
 pub mod Put
 pub mod Pieces
+pub mod Read

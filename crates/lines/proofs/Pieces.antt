@@ -26,6 +26,7 @@ use Rattle.lines.specs.Read.{
   isSmall,
   isNumber,
   areNumbers,
+  isLine,
   values,
   numbersIn,
 }
@@ -119,6 +120,19 @@ bare-less line e = sym (cond-true _ _ (eq-eqb _ 13 e))
 pub bare-whole : (line : List ℕ) → (getD line (length line - 1) 0 ≡ 13 → ⊥) → line ≡ bare line
 unfolding bare
 bare-whole line d = sym (cond-false _ _ (ne-eqb _ 13 d))
+
+-- a line begins with a word
+pub line-none : (text : List ℕ) → length (wordIn text) ≡ 0 → isLine text ≡ false
+unfolding isLine
+line-none text e = not-both (areNumbers (saidIn text)) (le-ltb 0 (length (wordIn text)) (omega arith))
+
+pub line-worded : (text : List ℕ) → 0 < length (wordIn text) → isLine text ≡ areNumbers (saidIn text)
+unfolding isLine
+line-worded text l = ap (λ (b : Bool). b && areNumbers (saidIn text)) (lt-ltb 0 (length (wordIn text)) l)
+
+pub line-numbers : (text : List ℕ) → isLine text ≡ true → areNumbers (saidIn text) ≡ true
+unfolding isLine
+line-numbers text t = and-right (ltb 0 (length (wordIn text))) (areNumbers (saidIn text)) t
 
 -- digits behind a number already read: they are digits, and the number stays below 2⁶⁴
 unfoldable pub fits : ℕ → List ℕ → Bool

@@ -28,11 +28,10 @@ start-of h = h .before .before
 done : (text : List ℕ) (from i value : ℕ) → ReadTo text from i value → piece (drop i text) ≡ [] →
     (true ≡ isSmall (piece (drop from text))) × ((true ≡ true → i ≡ from + length (piece (drop from text)))
     × (true ≡ true → value ≡ readOn 0 (piece (drop from text))))
-done text from i value r e =
-    (
-      sym (read-good text from i value r e),
-      (λ t. read-next text from i value r e, λ t. read-value text from i value r e),
-    )
+done text from i value r e = (
+  sym (read-good text from i value r e),
+  (λ t. read-next text from i value r e, λ t. read-value text from i value r e),
+)
 
 loop-holds : tie.Need-loop-holds Inv-loop μ-loop
 loop-holds c = read-begins (c .before .args .line .now) (c .before .args .from) (c .before .pre)
