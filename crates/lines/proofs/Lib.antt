@@ -6,3 +6,5 @@ pub mod Laws
 pub mod Put
 pub mod Pieces
 pub mod Read
+pub mod ReadBack
+pub mod Calls
