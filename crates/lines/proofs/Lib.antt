@@ -5,3 +5,6 @@ pub mod Lines
 pub mod Laws
 pub mod Put
 pub mod Pieces
+pub mod Read
+pub mod ReadBack
+pub mod Calls

@@ -8,8 +8,8 @@ use native.Mathlib.Nat.{le-refl}
 use native.Mathlib.Numerals.{add-one}
 use native.Mathlib.Omega.{arith}
 use lib.Dec.{eqb, ltb}
-use lib.ListN.{length, getD, take, drop, length-drop, drop-of-length-le}
-use lib.Seq.{drop-cons, drop-drop, take-suc}
+use lib.ListN.{length, getD, take, drop, length-take, length-drop, drop-of-length-le}
+use lib.Seq.{drop-cons, drop-drop, take-length, length-take-le}
 use borrow.Author.Tests.{lt-ltb, le-ltb, ltb-true, ltb-false, eq-eqb, ne-eqb, eqb-true}
 use Rattle.bytes.specs.Bytes.{indexOf, indexAfter}
 use Rattle.counting.proofs.Bools.{cond-true, cond-false, both, and-left, and-right, and-false-right, not-both}
@@ -26,6 +26,7 @@ use Rattle.lines.specs.Read.{
   isSmall,
   isNumber,
   areNumbers,
+  isLine,
   values,
   numbersIn,
 }
@@ -119,6 +120,36 @@ bare-less line e = sym (cond-true _ _ (eq-eqb _ 13 e))
 pub bare-whole : (line : List ℕ) → (getD line (length line - 1) 0 ≡ 13 → ⊥) → line ≡ bare line
 unfolding bare
 bare-whole line d = sym (cond-false _ _ (ne-eqb _ 13 d))
+
+pub bare-take : (line : List ℕ) → take (length (bare line)) line ≡ bare line
+unfolding bare
+bare-take line = go (eqb (getD line (length line - 1) 0) 13)
+  where
+    go : (b : Bool) → take (length (cond b (take (length line - 1) line) line)) line
+        ≡ cond b (take (length line - 1) line) line
+    go true = ap (λ (k : ℕ). take k line) (length-take-le (length line - 1) line (omega arith))
+    go false = take-length line
+
+pub bare-within : (line : List ℕ) → length (bare line) ≤ length line
+bare-within line = omega (arith, ap length (bare-take line), length-take (length (bare line)) line)
+
+-- a line begins with a word
+pub line-none : (text : List ℕ) → length (wordIn text) ≡ 0 → isLine text ≡ false
+unfolding isLine
+line-none text e = not-both (areNumbers (saidIn text)) (le-ltb 0 (length (wordIn text)) (omega arith))
+
+pub line-worded : (text : List ℕ) → 0 < length (wordIn text) → isLine text ≡ areNumbers (saidIn text)
+unfolding isLine
+line-worded text l = ap (λ (b : Bool). b && areNumbers (saidIn text)) (lt-ltb 0 (length (wordIn text)) l)
+
+pub line-word : (text : List ℕ) → isLine text ≡ true → 0 < length (wordIn text)
+unfolding isLine
+line-word text t =
+    ltb-true 0 (length (wordIn text)) (and-left (ltb 0 (length (wordIn text))) (areNumbers (saidIn text)) t)
+
+pub line-numbers : (text : List ℕ) → isLine text ≡ true → areNumbers (saidIn text) ≡ true
+unfolding isLine
+line-numbers text t = and-right (ltb 0 (length (wordIn text))) (areNumbers (saidIn text)) t
 
 -- digits behind a number already read: they are digits, and the number stays below 2⁶⁴
 unfoldable pub fits : ℕ → List ℕ → Bool
