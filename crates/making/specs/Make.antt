@@ -14,12 +14,8 @@ use Rattle.lines.specs.Read.{bare, wordIn, isLine, numbersIn}
 use Rattle.listing.specs.File.{tableBytes, tableBegins}
 use Rattle.listing.specs.Listing.{run-word}
 use Rattle.says.specs.declared.Place.{Place}
-use Rattle.says.specs.Say.{say-word, rowIn, placeReply}
+use Rattle.says.specs.Say.{rows-word, say-word, rowIn, placeReply}
 use Rattle.making.specs.declared.Maker.{Maker}
-
--- rows
-abbrev pub rows-word : List ℕ
-rows-word = 114 ∷ 111 ∷ 119 ∷ 115 ∷ []
 
 -- a maker and the file so far
 pub record Progress : Type 0 where

@@ -12,7 +12,10 @@ use Rattle.lines.specs.Line.{lineOf, lineReply, lineWrites}
 use Rattle.listing.specs.File.{tableBegins}
 use Rattle.says.specs.declared.Place.{Place}
 
--- the word of these lines: say
+-- the words of a text that a listing has not: rows, say
+abbrev pub rows-word : List ℕ
+rows-word = 114 ∷ 111 ∷ 119 ∷ 115 ∷ []
+
 abbrev pub say-word : List ℕ
 say-word = 115 ∷ 97 ∷ 121 ∷ []
 
