@@ -5,8 +5,8 @@ use Prim.Native.Nat.{ℕ, _+_, _*_, min}
 use mathlib.Core.Bool.{Bool, cond, not, _&&_}
 use mathlib.Core.List.{List, [], _∷_, _++_}
 use lib.Dec.{eqb, ltb}
-use lib.ListN.{length, getD, replicate}
-use Rattle.counting.specs.Count.{any}
+use lib.ListN.{length, getD}
+use Rattle.counting.specs.Count.{any, build}
 use Rattle.sizes.specs.Sizes.{sizeRefusal}
 use Rattle.runfile.specs.Write.{headingFile, writeHeadingRefusal, rowRefusal, rowWrites}
 use Rattle.lines.specs.Line.{placed}
@@ -126,7 +126,7 @@ rowsRefusal m rows room = writeHeadingRefusal (m .n) (m .t) (m .faulty) rows (fi
 
 -- the file before any line `say`: the heading, and tables of zeros
 unfoldable pub emptyFile : Maker → List ℕ → List ℕ
-emptyFile m rows = headingFile (m .n) (m .t) (m .faulty) rows ++ replicate ((m .t + 1) * tableBytes (m .n)) 0
+emptyFile m rows = headingFile (m .n) (m .t) (m .faulty) rows ++ build ((m .t + 1) * tableBytes (m .n)) (λ k. 0)
 
 -- the line `rows`
 unfoldable pub rowsTaken : Progress → Bool → List ℕ → Progress

@@ -3,7 +3,8 @@
 ghost use mathlib.Core.Path.{_≡_};
 ghost use mathlib.Core.List.{List};
 ghost use Prim.Native.Nat.{ℕ, _≤_, _<_, min};
-ghost use lib.ListN.{length, replicate};
+ghost use lib.ListN.{length};
+ghost use Rattle.counting.specs.Count.{build};
 ghost use Rattle.making.specs.Make.{
   progress,
   noText,
@@ -257,7 +258,7 @@ fn file_room(n: u8, t: u8, room: usize) -> usize
 
 // Puts zeros in the place of all that stands in a slice.
 fn clear(bytes: &mut [u8])
-    ensures { λ r. ⌜ now (bytes .exit) ≡ replicate (length (now (bytes .entry))) 0 ⌝ }
+    ensures { λ r. ⌜ now (bytes .exit) ≡ build (length (now (bytes .entry))) (λ k. 0) ⌝ }
 {
     let mut k: usize = 0;
     while k < bytes.len() {
