@@ -13,10 +13,10 @@ use lib.Seq.{take-take}
 use Rattle.lines.specs.declared.Written.{Written}
 use Rattle.lines.specs.declared.Words.{Words}
 use Rattle.lines.specs.Line.{lineOf, placed, lineReply, lineWrites}
-use Rattle.lines.specs.Read.{readReply, readWrites}
+use Rattle.lines.specs.Read.{readReply, readWrites, Readable}
 use Rattle.lines.proofs.Lines.{line-refused, line-given}
 use Rattle.lines.proofs.Laws.{line-front}
-use Rattle.lines.proofs.ReadBack.{Readable, whole, back-reply, back-writes, back-word, unended}
+use Rattle.lines.proofs.ReadBack.{whole, back-reply, back-writes, back-word, unended}
 use Rattle.lines.proofs.write_line.Reads as WriteReads
 use Rattle.lines.proofs.read_line.Reads as ReadReads
 

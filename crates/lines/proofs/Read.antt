@@ -7,6 +7,7 @@ use Prim.Native.Nat.{ℕ, zero, suc, _^_, _≤_, _<_}
 use native.Mathlib.Omega.{arith}
 use lib.Dec.{ltb}
 use lib.ListN.{length, getD, take, drop}
+use lib.Seq.{take-take}
 use borrow.Author.Tests.{lt-ltb, le-ltb, ltb-true, ltb-false, eq-eqb}
 use Rattle.counting.proofs.Bools.{cond-true, cond-false, and-left, and-right}
 use Rattle.lines.specs.declared.Words.{Words}
@@ -30,6 +31,7 @@ use Rattle.lines.specs.Read.{
 use Rattle.lines.proofs.Placed.{placed-length, placed-found, placed-rest}
 use Rattle.lines.proofs.Pieces.{
   piece-within,
+  piece-front,
   bare-take,
   bare-within,
   line-none,
@@ -81,6 +83,15 @@ module _ (line : List ℕ) (t : isLine (bare line) ≡ true) where
       drop (length (numbersIn (bare line))) (readWrites line slice) ≡ drop (length (numbersIn (bare line))) slice
   read-rest slice l =
       ap (drop (length (numbersIn (bare line)))) (read-written slice l) ∙ placed-rest slice (numbersIn (bare line))
+
+-- the word stands at the front of the line
+pub read-word : (line : List ℕ) → take (length (wordIn (bare line))) line ≡ wordIn (bare line)
+unfolding wordIn
+read-word line =
+    let size = length (piece (bare line)) in
+    sym (take-take size (length (bare line)) line (piece-within (bare line)))
+    ∙ ap (take size) (bare-take line)
+    ∙ piece-front (bare line)
 
 -- what holds in the three cases holds of every call: the line is no word and numbers, it has no room, or it is taken
 module _ (line slice : List ℕ) where
