@@ -18,7 +18,7 @@ use Rattle.lines.proofs.Pieces.{piece-goes}
 unfoldable pub fits : ℕ → List ℕ → Bool
 fits before text = isDigits text && ltb (readOn before text) (2 ^ 64)
 
-pub small-fits : (text : List ℕ) → isSmall text ≡ fits 0 text
+small-fits : (text : List ℕ) → isSmall text ≡ fits 0 text
 unfolding isSmall fits
 small-fits text = refl
 
@@ -28,7 +28,7 @@ unfolding readOn
 read-grows before [] = le-refl _
 read-grows before (byte ∷ text) = omega (arith, read-grows (before * 10 + (byte - 48)) text)
 
-pub fits-none : (before : ℕ) → before < 2 ^ 64 → fits before [] ≡ true
+fits-none : (before : ℕ) → before < 2 ^ 64 → fits before [] ≡ true
 unfolding fits isDigits readOn
 fits-none before l = lt-ltb before (2 ^ 64) l
 
@@ -57,7 +57,7 @@ module _ (before byte : ℕ) where
   takes-well h l m =
       both (both (lt-ltb 47 byte (omega arith)) (lt-ltb byte 58 (omega arith))) (lt-ltb _ (2 ^ 64) m)
 
-pub fits-turn : (before byte : ℕ) (text : List ℕ) →
+fits-turn : (before byte : ℕ) (text : List ℕ) →
     fits before (byte ∷ text) ≡ (takes before byte && fits (with-digit before byte) text)
 unfolding fits isDigits readOn
 fits-turn before byte text = go (isDigit byte) (ltb (with-digit before byte) (2 ^ 64)) refl
