@@ -2,9 +2,8 @@
 -- them, of one reply after another. What was written, lent without its newline, comes back as its word and its
 -- numbers. A contract that said less of its reply would not do. And there are such calls: what the definitions give
 -- meets the contracts. Assumes nothing.
-use mathlib.Core.Path.{_≡_, refl, sym, ap, ap₂, subst, _∙_}
+use mathlib.Core.Path.{_≡_, refl, sym, ap, ap₂, _∙_}
 use mathlib.Core.List.{List, []}
-use mathlib.Core.Logic.{⊎-elim}
 use Prim.Native.Nat.{ℕ, _-_, _≤_, _<_}
 use native.Mathlib.Decide.{decLt}
 use native.Mathlib.Omega.{arith}
@@ -14,10 +13,10 @@ use lib.Seq.{take-take}
 use Rattle.lines.specs.declared.Written.{Written}
 use Rattle.lines.specs.declared.Words.{Words}
 use Rattle.lines.specs.Line.{lineOf, placed, lineReply, lineWrites}
-use Rattle.lines.specs.Read.{readReply, readWrites}
+use Rattle.lines.specs.Read.{readReply, readWrites, Readable}
 use Rattle.lines.proofs.Lines.{line-refused, line-given}
 use Rattle.lines.proofs.Laws.{line-front}
-use Rattle.lines.proofs.ReadBack.{Readable, whole, back-reply, back-writes, back-word, unended}
+use Rattle.lines.proofs.ReadBack.{whole, back-reply, back-writes, back-word, unended}
 use Rattle.lines.proofs.write_line.Reads as WriteReads
 use Rattle.lines.proofs.read_line.Reads as ReadReads
 
@@ -91,7 +90,8 @@ lent numbers = record { ptr = (0, 0); name = 0; now = numbers }
 pub write-call : (out word numbers : List ℕ) →
     WriteCall out word numbers (lineReply word numbers (length out)) (lineWrites word numbers out)
 write-call out word numbers =
-    WriteCall.call ([], ([], ([], tt))) (lent out, (lent word, (lent numbers, tt))) (lineReply word numbers (length out))
+    WriteCall.call ([], ([], ([], tt))) (lent out, (lent word, (lent numbers, tt)))
+    (lineReply word numbers (length out))
     (lent (lineWrites word numbers out), (lent word, (lent numbers, tt)))
     (refl, refl)
 

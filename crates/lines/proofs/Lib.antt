@@ -5,6 +5,8 @@ pub mod Lines
 pub mod Laws
 pub mod Put
 pub mod Pieces
+pub mod Digits
+pub mod Walk
 pub mod Read
 pub mod ReadBack
 pub mod Calls

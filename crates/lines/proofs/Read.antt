@@ -7,6 +7,7 @@ use Prim.Native.Nat.{ℕ, zero, suc, _^_, _≤_, _<_}
 use native.Mathlib.Omega.{arith}
 use lib.Dec.{ltb}
 use lib.ListN.{length, getD, take, drop}
+use lib.Seq.{take-take}
 use borrow.Author.Tests.{lt-ltb, le-ltb, ltb-true, ltb-false, eq-eqb}
 use Rattle.counting.proofs.Bools.{cond-true, cond-false, and-left, and-right}
 use Rattle.lines.specs.declared.Words.{Words}
@@ -30,6 +31,7 @@ use Rattle.lines.specs.Read.{
 use Rattle.lines.proofs.Placed.{placed-length, placed-found, placed-rest}
 use Rattle.lines.proofs.Pieces.{
   piece-within,
+  piece-front,
   bare-take,
   bare-within,
   line-none,
@@ -82,16 +84,25 @@ module _ (line : List ℕ) (t : isLine (bare line) ≡ true) where
   read-rest slice l =
       ap (drop (length (numbersIn (bare line)))) (read-written slice l) ∙ placed-rest slice (numbersIn (bare line))
 
+-- the word stands at the front of the line
+pub read-word : (line : List ℕ) → take (length (wordIn (bare line))) line ≡ wordIn (bare line)
+unfolding wordIn
+read-word line =
+    let size = length (piece (bare line)) in
+    sym (take-take size (length (bare line)) line (piece-within (bare line)))
+    ∙ ap (take size) (bare-take line)
+    ∙ piece-front (bare line)
+
 -- what holds in the three cases holds of every call: the line is no word and numbers, it has no room, or it is taken
 module _ (line slice : List ℕ) where
-  by-cases : (P : Words → List ℕ → Type 0) → P (record { refusal = 0; word = 0; count = 0 }) slice →
+  pub read-cases : (P : Words → List ℕ → Type 0) → P (record { refusal = 0; word = 0; count = 0 }) slice →
       P (record { refusal = 10; word = 0; count = 0 }) slice →
       (isLine (bare line) ≡ true → length (numbersIn (bare line)) ≤ length slice →
       P (record { refusal = 0; word = length (wordIn (bare line)); count = length (numbersIn (bare line)) })
       (placed slice 0 (numbersIn (bare line)))) →
       P (readReply line (length slice)) (readWrites line slice)
   unfolding readReply readWrites tooMany
-  by-cases P nothing refused given =
+  read-cases P nothing refused given =
       go (isLine (bare line)) (ltb (length slice) (length (numbersIn (bare line)))) refl refl
     where
       go : (b c : Bool) → isLine (bare line) ≡ b → ltb (length slice) (length (numbersIn (bare line))) ≡ c →
@@ -107,31 +118,31 @@ module _ (line slice : List ℕ) where
 
   -- no more numbers than the slice has places
   pub read-fits : readReply line (length slice) .count ≤ length slice
-  read-fits = by-cases (λ r xs. r .count ≤ length slice) (omega arith) (omega arith) (λ t l. l)
+  read-fits = read-cases (λ r xs. r .count ≤ length slice) (omega arith) (omega arith) (λ t l. l)
 
   -- the word is within the line
   pub read-within : readReply line (length slice) .word ≤ length line
   unfolding wordIn
   read-within =
-      by-cases (λ r xs. r .word ≤ length line) (omega arith) (omega arith)
+      read-cases (λ r xs. r .word ≤ length line) (omega arith) (omega arith)
       (λ t l. omega (arith, piece-within (bare line), bare-within line))
 
   -- where there is no word there is no number, and the slice stays: the line is no word and numbers, or it is refused
   pub read-wordless : readReply line (length slice) .word ≡ 0 →
       (readReply line (length slice) .count ≡ 0) × (readWrites line slice ≡ slice)
   read-wordless =
-      by-cases (λ r xs. r .word ≡ 0 → (r .count ≡ 0) × (xs ≡ slice)) (λ e. (refl, refl)) (λ e. (refl, refl))
+      read-cases (λ r xs. r .word ≡ 0 → (r .count ≡ 0) × (xs ≡ slice)) (λ e. (refl, refl)) (λ e. (refl, refl))
       (λ t l e. absurd (omega (arith, e, line-word (bare line) t)))
 
   pub read-refused-wordless : (readReply line (length slice) .refusal ≡ 0 → ⊥) →
       readReply line (length slice) .word ≡ 0
   read-refused-wordless =
-      by-cases (λ r xs. (r .refusal ≡ 0 → ⊥) → r .word ≡ 0) (λ d. refl) (λ d. refl) (λ t l d. absurd (d refl))
+      read-cases (λ r xs. (r .refusal ≡ 0 → ⊥) → r .word ≡ 0) (λ d. refl) (λ d. refl) (λ t l d. absurd (d refl))
 
   -- the slice keeps its length
   pub read-keeps : length (readWrites line slice) ≡ length slice
   read-keeps =
-      by-cases (λ r xs. length xs ≡ length slice) refl refl
+      read-cases (λ r xs. length xs ≡ length slice) refl refl
       (λ t l. placed-length slice 0 (numbersIn (bare line)) (omega (arith, l)))
 
 -- an empty line and one that begins with a space are no word and numbers: at place 0 is a space, or nothing

@@ -30,6 +30,7 @@ use Rattle.lines.specs.Read.{
   numbersIn,
   readReply,
   readWrites,
+  Readable,
 }
 use Rattle.lines.proofs.Decimal.{decimal-some}
 use Rattle.lines.proofs.Lines.{line-length}
@@ -38,16 +39,8 @@ use Rattle.lines.proofs.Pieces.{bare-whole, line-worded}
 use Rattle.lines.proofs.Read.{read-given, read-written}
 
 -- no space stands in the text
-abbrev pub Spaceless : List ℕ → Type 0
+abbrev Spaceless : List ℕ → Type 0
 Spaceless text = (k : ℕ) → k < length text → getD text k 0 ≡ 32 → ⊥
-
--- a word and numbers that can be read back: the word is not empty and has no space in it, nor a carriage return at
--- its end where no number follows, and the numbers are less than 2⁶⁴
-pub record Readable (word numbers : List ℕ) : Type 0 where
-  pub some : 0 < length word
-  pub spaceless : Spaceless word
-  pub returnless : getD word (length word - 1) 0 ≡ 13 → 0 < length numbers
-  pub low : (i : ℕ) → i < length numbers → getD numbers i 0 < 2 ^ 64
 
 -- a text without a space is one piece
 piece-whole : (text : List ℕ) → Spaceless text → piece text ≡ text

@@ -1,7 +1,8 @@
 -- A line of text that is read: a word, and numbers behind spaces. A text is a list of bytes; a line is given without
 -- its newline.
-use Prim.Native.Nat.{ℕ, zero, suc, _-_, _^_}
-use mathlib.Core.Bool.{Bool, true, false, cond, _&&_}
+use mathlib.Core.Path.{_≡_}
+use Prim.Native.Nat.{ℕ, _-_, _^_, _<_}
+use mathlib.Core.Bool.{Bool, true, cond, _&&_}
 use mathlib.Core.List.{List, [], _∷_}
 use lib.Dec.{eqb, ltb}
 use lib.ListN.{length, getD, take}
@@ -90,3 +91,11 @@ readWrites line slice =
     cond (isLine (bare line))
     (cond (tooMany (bare line) (length slice)) slice (placed slice 0 (numbersIn (bare line))))
     slice
+
+-- a word and numbers that are read back as they were written: the word is not empty and has no space in it, nor a
+-- carriage return at its end where no number follows, and the numbers are less than 2⁶⁴
+pub record Readable (word numbers : List ℕ) : Type 0 where
+  pub some : 0 < length word
+  pub spaceless : (k : ℕ) → k < length word → getD word k 0 ≡ 32 → ⊥
+  pub returnless : getD word (length word - 1) 0 ≡ 13 → 0 < length numbers
+  pub low : (i : ℕ) → i < length numbers → getD numbers i 0 < 2 ^ 64

@@ -3,7 +3,7 @@
 use mathlib.Core.Path.{refl, sym}
 use mathlib.Core.Bool.{false≢true}
 use native.Mathlib.Omega.{arith}
-use Rattle.lines.proofs.Pieces.{takes-low, takes-high, takes-large, takes-well}
+use Rattle.lines.proofs.Digits.{takes-low, takes-high, takes-large, takes-well}
 use borrow.Author.Needs.{needs}
 use Rattle.lines.proofs.add_digit.Statement.{statement}
 use Rattle.lines.proofs.add_digit.Tie as tie

@@ -1,6 +1,6 @@
 -- `lines::bare_size` meets its contract: an empty line ends with no carriage return, and any other ends with its last
 -- byte. Assumes nothing.
-use mathlib.Core.Path.{sym, _∙_}
+use mathlib.Core.Path.{_∙_}
 use Prim.Native.Nat.{_-_}
 use native.Mathlib.Nat.{le-refl}
 use native.Mathlib.Omega.{arith}

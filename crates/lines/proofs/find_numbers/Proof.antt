@@ -8,9 +8,8 @@ use native.Mathlib.Omega.{arith}
 use lib.ListN.{length}
 use borrow.Author.Tests.{not-true, not-false}
 use Rattle.lines.specs.Read.{wordIn}
-use Rattle.lines.proofs.Pieces.{
-  line-none,
-  line-worded,
+use Rattle.lines.proofs.Pieces.{line-none, line-worded}
+use Rattle.lines.proofs.Walk.{
   part,
   Reached,
   walk-begins,

@@ -2,15 +2,23 @@
 -- on, which ends at a space or with the line. A byte that is no digit, or brings the value to 2⁶⁴, decides: what
 -- follows makes it no smaller. What is left of the line falls. Assumes nothing.
 use mathlib.Core.Path.{_≡_, sym, subst, _∙_}
-use mathlib.Core.Bool.{Bool, true, false≢true}
+use mathlib.Core.Bool.{true, false≢true}
 use mathlib.Core.List.{List, []}
 use Prim.Native.Nat.{ℕ, _+_, _-_}
-use native.Mathlib.Omega.{arith}
-use lib.ListN.{length, getD, drop}
+use lib.ListN.{length, drop}
 use borrow.Author.Tests.{not-true, not-false}
 use Rattle.lines.specs.Line.{readOn}
 use Rattle.lines.specs.Read.{piece, isSmall}
-use Rattle.lines.proofs.Pieces.{ReadTo, read-begins, read-bad, read-turn, read-good, read-next, read-value, piece-stops, piece-end}
+use Rattle.lines.proofs.Pieces.{piece-stops, piece-end}
+use Rattle.lines.proofs.Digits.{
+  ReadTo,
+  read-begins,
+  read-bad,
+  read-turn,
+  read-good,
+  read-next,
+  read-value,
+}
 use borrow.Author.Needs.{needs}
 use Rattle.lines.proofs.read_piece.Statement.{statement}
 use Rattle.lines.proofs.read_piece.Tie as tie

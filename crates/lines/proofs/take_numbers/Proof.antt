@@ -4,7 +4,7 @@
 use mathlib.Core.Path.{_≡_, sym, ap, _∙_}
 use mathlib.Core.Bool.{true}
 use mathlib.Core.List.{List, [], _∷_, _++_}
-use Prim.Native.Nat.{ℕ, _+_, _-_, _≤_, _<_}
+use Prim.Native.Nat.{ℕ, _+_, _-_, _<_}
 use native.Mathlib.Omega.{arith}
 use native.Mathlib.Numerals.{add-one}
 use lib.ListN.{length, getD, take}
@@ -12,8 +12,8 @@ use lib.Seq.{length-take-le, take-suc, take-all}
 use Rattle.lines.specs.Line.{placed}
 use Rattle.lines.specs.Read.{isSmall, numbersIn}
 use Rattle.lines.proofs.Placed.{placed-none, placed-next, placed-length}
-use Rattle.lines.proofs.Pieces.{
-  line-numbers,
+use Rattle.lines.proofs.Pieces.{line-numbers}
+use Rattle.lines.proofs.Walk.{
   part,
   Reached,
   walk-begins,
