@@ -7,29 +7,23 @@ use Rattle.says.proofs.is_meant.Reads as is-meant-reads
 use Rattle.says.proofs.say_at.Reads as say-at-reads
 use Rattle.sizes.proofs.size_refusal.Reads as size-refusal-reads
 
--- src/lib.rt:114:9
 size-refusal-requires : tie.Need-size-refusal-requires
-size-refusal-requires c κs = search needs
+size-refusal-requires c κs = ?
 
--- src/lib.rt:116:9
 returns : tie.Need-returns
-returns c = search needs
+returns c = ?
 
--- src/lib.rt:122:9
 is-meant-requires : tie.Need-is-meant-requires
-is-meant-requires c κs = search needs
+is-meant-requires c κs = ?
 
--- src/lib.rt:123:9
 returns-2 : tie.Need-returns-2
-returns-2 c = search needs
+returns-2 c = ?
 
--- src/lib.rt:129:9
 say-at-requires : tie.Need-say-at-requires
-say-at-requires c κs = search needs
+say-at-requires c κs = ?
 
--- src/lib.rt:111:1
 returns-3 : tie.Need-returns-3
-returns-3 c = search needs
+returns-3 c = ?
 
 pub place-of-spec : {M : Type 1} → statement M
 place-of-spec =

@@ -6,125 +6,95 @@ use Rattle.says.proofs.tell.Lts as lts
 use Rattle.lines.proofs.write_line.Reads as write-line-reads
 use Rattle.says.proofs.write_fault.Reads as write-fault-reads
 
--- src/lib.rt:203:39
 slice-aggregate-write-line : tie.Need-slice-aggregate-write-line
-slice-aggregate-write-line c = search needs
+slice-aggregate-write-line c = ?
 
--- src/lib.rt:203:51
 slice-aggregate-write-line-2 : tie.Need-slice-aggregate-write-line-2
-slice-aggregate-write-line-2 c = search needs
+slice-aggregate-write-line-2 c = ?
 
--- src/lib.rt:203:9
 write-line-requires : tie.Need-write-line-requires
-write-line-requires c κs = search needs
+write-line-requires c κs = ?
 
--- src/lib.rt:203:9
 same-length : tie.Need-same-length
-same-length c = search needs
+same-length c = ?
 
--- src/lib.rt:203:9
 returns : tie.Need-returns
-returns c = search needs
+returns c = ?
 
--- src/lib.rt:212:13
 slice-aggregate-write-fault : tie.Need-slice-aggregate-write-fault
-slice-aggregate-write-fault c = search needs
+slice-aggregate-write-fault c = ?
 
--- src/lib.rt:210:14
 write-fault-requires : tie.Need-write-fault-requires
-write-fault-requires c κs = search needs
+write-fault-requires c κs = ?
 
--- src/lib.rt:215:32
 slice-aggregate-write-fault-2 : tie.Need-slice-aggregate-write-fault-2
-slice-aggregate-write-fault-2 c = search needs
+slice-aggregate-write-fault-2 c = ?
 
--- src/lib.rt:215:14
 write-fault-requires-2 : tie.Need-write-fault-requires-2
-write-fault-requires-2 c κs = search needs
+write-fault-requires-2 c κs = ?
 
--- src/lib.rt:218:13
 slice-aggregate-write-fault-3 : tie.Need-slice-aggregate-write-fault-3
-slice-aggregate-write-fault-3 c = search needs
+slice-aggregate-write-fault-3 c = ?
 
--- src/lib.rt:216:14
 write-fault-requires-3 : tie.Need-write-fault-requires-3
-write-fault-requires-3 c κs = search needs
+write-fault-requires-3 c κs = ?
 
--- src/lib.rt:223:13
 slice-aggregate-write-fault-4 : tie.Need-slice-aggregate-write-fault-4
-slice-aggregate-write-fault-4 c = search needs
+slice-aggregate-write-fault-4 c = ?
 
--- src/lib.rt:221:14
 write-fault-requires-4 : tie.Need-write-fault-requires-4
-write-fault-requires-4 c κs = search needs
+write-fault-requires-4 c κs = ?
 
--- src/lib.rt:228:13
 slice-aggregate-write-fault-5 : tie.Need-slice-aggregate-write-fault-5
-slice-aggregate-write-fault-5 c = search needs
+slice-aggregate-write-fault-5 c = ?
 
--- src/lib.rt:226:14
 write-fault-requires-5 : tie.Need-write-fault-requires-5
-write-fault-requires-5 c κs = search needs
+write-fault-requires-5 c κs = ?
 
--- src/lib.rt:231:32
 slice-aggregate-write-fault-6 : tie.Need-slice-aggregate-write-fault-6
-slice-aggregate-write-fault-6 c = search needs
+slice-aggregate-write-fault-6 c = ?
 
--- src/lib.rt:231:14
 write-fault-requires-6 : tie.Need-write-fault-requires-6
-write-fault-requires-6 c κs = search needs
+write-fault-requires-6 c κs = ?
 
--- src/lib.rt:198:1
 returns-2 : tie.Need-returns-2
-returns-2 c = search needs
+returns-2 c = ?
 
--- src/lib.rt:198:1
 same-length-2 : tie.Need-same-length-2
-same-length-2 c = search needs
+same-length-2 c = ?
 
--- src/lib.rt:198:1
 returns-3 : tie.Need-returns-3
-returns-3 c = search needs
+returns-3 c = ?
 
--- src/lib.rt:198:1
 same-length-3 : tie.Need-same-length-3
-same-length-3 c = search needs
+same-length-3 c = ?
 
--- src/lib.rt:198:1
 returns-4 : tie.Need-returns-4
-returns-4 c = search needs
+returns-4 c = ?
 
--- src/lib.rt:198:1
 same-length-4 : tie.Need-same-length-4
-same-length-4 c = search needs
+same-length-4 c = ?
 
--- src/lib.rt:198:1
 returns-5 : tie.Need-returns-5
-returns-5 c = search needs
+returns-5 c = ?
 
--- src/lib.rt:198:1
 same-length-5 : tie.Need-same-length-5
-same-length-5 c = search needs
+same-length-5 c = ?
 
--- src/lib.rt:198:1
 returns-6 : tie.Need-returns-6
-returns-6 c = search needs
+returns-6 c = ?
 
--- src/lib.rt:198:1
 same-length-6 : tie.Need-same-length-6
-same-length-6 c = search needs
+same-length-6 c = ?
 
--- src/lib.rt:198:1
 returns-7 : tie.Need-returns-7
-returns-7 c = search needs
+returns-7 c = ?
 
--- src/lib.rt:198:1
 same-length-7 : tie.Need-same-length-7
-same-length-7 c = search needs
+same-length-7 c = ?
 
--- src/lib.rt:198:1
 returns-8 : tie.Need-returns-8
-returns-8 c = search needs
+returns-8 c = ?
 
 pub tell-spec : {M : Type 1} → statement M
 tell-spec =

@@ -6,69 +6,53 @@ use Rattle.says.proofs.write_fault.Lts as lts
 use Rattle.bytes.proofs.copy.Reads as copy-reads
 use Rattle.lines.proofs.write_line.Reads as write-line-reads
 
--- src/lib.rt:183:33
 slice-aggregate-write-line : tie.Need-slice-aggregate-write-line
-slice-aggregate-write-line c = search needs
+slice-aggregate-write-line c = ?
 
--- src/lib.rt:183:45
 slice-aggregate-write-line-2 : tie.Need-slice-aggregate-write-line-2
-slice-aggregate-write-line-2 c = search needs
+slice-aggregate-write-line-2 c = ?
 
--- src/lib.rt:183:54
 slice-aggregate-write-line-3 : tie.Need-slice-aggregate-write-line-3
-slice-aggregate-write-line-3 c = search needs
+slice-aggregate-write-line-3 c = ?
 
--- src/lib.rt:183:15
 write-line-requires : tie.Need-write-line-requires
-write-line-requires c κs = search needs
+write-line-requires c κs = ?
 
--- src/lib.rt:183:15
 sub-end : tie.Need-sub-end
-sub-end c = search needs
+sub-end c = ?
 
--- src/lib.rt:184:16
 add-size : tie.Need-add-size
-add-size c = search needs
+add-size c = ?
 
--- src/lib.rt:186:9
 returns : tie.Need-returns
-returns c = search needs
+returns c = ?
 
--- src/lib.rt:191:17
 array-share-prefix-start : tie.Need-array-share-prefix-start
-array-share-prefix-start c = search needs
+array-share-prefix-start c = ?
 
--- src/lib.rt:191:17
 slice-aggregate-copy : tie.Need-slice-aggregate-copy
-slice-aggregate-copy c = search needs
+slice-aggregate-copy c = ?
 
--- src/lib.rt:191:5
 copy-requires : tie.Need-copy-requires
-copy-requires c κs = search needs
+copy-requires c κs = ?
 
--- src/lib.rt:192:23
 sub-copy : tie.Need-sub-copy
-sub-copy c = search needs
+sub-copy c = ?
 
--- src/lib.rt:192:23
 part-copy-start : tie.Need-part-copy-start
-part-copy-start c = search needs
+part-copy-start c = ?
 
--- src/lib.rt:192:23
 part-copy-end : tie.Need-part-copy-end
-part-copy-end c = search needs
+part-copy-end c = ?
 
--- src/lib.rt:192:5
 copy-requires-2 : tie.Need-copy-requires-2
-copy-requires-2 c κs = search needs
+copy-requires-2 c κs = ?
 
--- src/lib.rt:177:1
 same-length : tie.Need-same-length
-same-length c = search needs
+same-length c = ?
 
--- src/lib.rt:177:1
 returns-2 : tie.Need-returns-2
-returns-2 c = search needs
+returns-2 c = ?
 
 pub write-fault-spec : {M : Type 1} → statement M
 write-fault-spec =

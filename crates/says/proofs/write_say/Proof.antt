@@ -5,121 +5,92 @@ use Rattle.says.proofs.write_say.Reads as reads
 use Rattle.says.proofs.write_say.Lts as lts
 use Rattle.lines.proofs.write_line.Reads as write-line-reads
 
--- src/lib.rt:143:9
 returns : tie.Need-returns
-returns c = search needs
+returns c = ?
 
--- src/lib.rt:149:9
 returns-2 : tie.Need-returns-2
-returns-2 c = search needs
+returns-2 c = ?
 
--- src/lib.rt:155:18
 mul-square : tie.Need-mul-square
-mul-square c = search needs
+mul-square c = ?
 
--- src/lib.rt:156:21
 add-iteration : tie.Need-add-iteration
-add-iteration c = search needs
+add-iteration c = ?
 
--- src/lib.rt:159:42
 div-t19 : tie.Need-div-t19
-div-t19 c = search needs
+div-t19 c = ?
 
--- src/lib.rt:159:38
 add-t20 : tie.Need-add-t20
-add-t20 c = search needs
+add-t20 c = ?
 
--- src/lib.rt:159:57
 rem-t21 : tie.Need-rem-t21
-rem-t21 c = search needs
+rem-t21 c = ?
 
--- src/lib.rt:159:53
 add-t22 : tie.Need-add-t22
-add-t22 c = search needs
+add-t22 c = ?
 
--- src/lib.rt:160:39
 slice-aggregate-write-line : tie.Need-slice-aggregate-write-line
-slice-aggregate-write-line c = search needs
+slice-aggregate-write-line c = ?
 
--- src/lib.rt:160:47
 slice-aggregate-write-line-2 : tie.Need-slice-aggregate-write-line-2
-slice-aggregate-write-line-2 c = search needs
+slice-aggregate-write-line-2 c = ?
 
--- src/lib.rt:160:9
 write-line-requires : tie.Need-write-line-requires
-write-line-requires c κs = search needs
+write-line-requires c κs = ?
 
--- src/lib.rt:160:9
 same-length : tie.Need-same-length
-same-length c = search needs
+same-length c = ?
 
--- src/lib.rt:160:9
 returns-3 : tie.Need-returns-3
-returns-3 c = search needs
+returns-3 c = ?
 
--- src/lib.rt:163:25
 mul-step : tie.Need-mul-step
-mul-step c = search needs
+mul-step c = ?
 
--- src/lib.rt:163:20
 div-step : tie.Need-div-step
-div-step c = search needs
+div-step c = ?
 
--- src/lib.rt:163:16
 add-step : tie.Need-add-step
-add-step c = search needs
+add-step c = ?
 
--- src/lib.rt:164:22
 div-sender : tie.Need-div-sender
-div-sender c = search needs
+div-sender c = ?
 
--- src/lib.rt:164:22
 rem-sender : tie.Need-rem-sender
-rem-sender c = search needs
+rem-sender c = ?
 
--- src/lib.rt:164:18
 add-sender : tie.Need-add-sender
-add-sender c = search needs
+add-sender c = ?
 
--- src/lib.rt:169:13
 div-t18 : tie.Need-div-t18
-div-t18 c = search needs
+div-t18 c = ?
 
--- src/lib.rt:169:13
 rem-t29 : tie.Need-rem-t29
-rem-t29 c = search needs
+rem-t29 c = ?
 
--- src/lib.rt:169:9
 add-t30 : tie.Need-add-t30
-add-t30 c = search needs
+add-t30 c = ?
 
--- src/lib.rt:170:13
 rem-t31 : tie.Need-rem-t31
-rem-t31 c = search needs
+rem-t31 c = ?
 
--- src/lib.rt:170:9
 add-t32 : tie.Need-add-t32
-add-t32 c = search needs
+add-t32 c = ?
 
--- src/lib.rt:173:28
 slice-aggregate-write-line-3 : tie.Need-slice-aggregate-write-line-3
-slice-aggregate-write-line-3 c = search needs
+slice-aggregate-write-line-3 c = ?
 
--- src/lib.rt:173:36
 slice-aggregate-write-line-4 : tie.Need-slice-aggregate-write-line-4
-slice-aggregate-write-line-4 c = search needs
+slice-aggregate-write-line-4 c = ?
 
--- src/lib.rt:173:5
 write-line-requires-2 : tie.Need-write-line-requires-2
-write-line-requires-2 c κs = search needs
+write-line-requires-2 c κs = ?
 
--- src/lib.rt:138:1
 same-length-2 : tie.Need-same-length-2
-same-length-2 c = search needs
+same-length-2 c = ?
 
--- src/lib.rt:138:1
 returns-4 : tie.Need-returns-4
-returns-4 c = search needs
+returns-4 c = ?
 
 pub write-say-spec : {M : Type 1} → statement M
 write-say-spec =
