@@ -81,5 +81,44 @@ module _ (n : ℕ) (numbers : List ℕ) where
 
 -- a line that is understood, both ways
 module _ (n t : ℕ) (numbers : List ℕ) where
-  ranges : Bool
-  ranges = within (t + 1) (iterationIn numbers) && (within n (senderIn numbers) && within n (receiverIn numbers))
+  pub meant-of : isMeant n t numbers ≡ true → Meant n t numbers
+  unfolding isMeant
+  meant-of e =
+      let sender = within n (senderIn numbers) in
+      let receiver = within n (receiverIn numbers) in
+      let iteration = within (t + 1) (iterationIn numbers) in
+      let fits = and-left (fitsStep n numbers) (iteration && (sender && receiver)) e in
+      let ranges = and-right (fitsStep n numbers) (iteration && (sender && receiver)) e in
+      let boxes = and-right iteration (sender && receiver) ranges in
+      let parts = fits-parts fits in
+      record {
+        five = parts .0;
+        iteration = within-among _ _ (and-left iteration (sender && receiver) ranges);
+        step = parts .1;
+        sender = within-among _ _ (and-left sender receiver boxes);
+        receiver = within-among _ _ (and-right sender receiver boxes);
+        leader = parts .2;
+      }
+    where
+      fits-parts : fitsStep n numbers ≡ true →
+          (5 ≤ length numbers)
+          × Among 3 (stepIn numbers)
+          × ((stepIn numbers ≡ 1 → ⊥) → Among n (leaderIn numbers))
+      fits-parts fits =
+          ⊎-elim
+          (λ yes.
+          let one = eqb-true (stepIn numbers) 1 yes in
+          let five = eqb-true (length numbers) 5 (sym (fits-first n numbers one) ∙ fits) in
+          (omega (arith, five), record { low = omega (arith, one); high = omega (arith, one) }, λ d. absurd (d one)))
+          (λ no.
+          let step = within 3 (stepIn numbers) in
+          let long = eqb (length numbers) 6 in
+          let leader = within n (leaderIn numbers) in
+          let later = sym (fits-later n numbers (eqb-false (stepIn numbers) 1 no)) ∙ fits in
+          let rest = and-right step (long && leader) later in
+          let six = eqb-true (length numbers) 6 (and-left long leader rest) in (
+            omega (arith, six),
+            within-among _ _ (and-left step (long && leader) later),
+            λ d. within-among _ _ (and-right long leader rest),
+          ))
+          (either (eqb (stepIn numbers) 1))
