@@ -1,3 +1,4 @@
 -- What belongs to no one function.
 pub mod Laws
 pub mod Places
+pub mod Faults

@@ -15,31 +15,31 @@ mul-square : tie.Need-mul-square
 mul-square c = ?
 
 add-iteration : tie.Need-add-iteration
-add-iteration c = ?
+add-iteration c = search needs
 
 div-t19 : tie.Need-div-t19
-div-t19 c = ?
+div-t19 c = search needs
 
 add-t20 : tie.Need-add-t20
 add-t20 c = ?
 
 rem-t21 : tie.Need-rem-t21
-rem-t21 c = ?
+rem-t21 c = search needs
 
 add-t22 : tie.Need-add-t22
 add-t22 c = ?
 
 slice-aggregate-write-line : tie.Need-slice-aggregate-write-line
-slice-aggregate-write-line c = ?
+slice-aggregate-write-line c = search needs
 
 slice-aggregate-write-line-2 : tie.Need-slice-aggregate-write-line-2
-slice-aggregate-write-line-2 c = ?
+slice-aggregate-write-line-2 c = search needs
 
 write-line-requires : tie.Need-write-line-requires
-write-line-requires c κs = ?
+write-line-requires c κs = search needs
 
 same-length : tie.Need-same-length
-same-length c = ?
+same-length c = search needs
 
 returns-3 : tie.Need-returns-3
 returns-3 c = ?
@@ -57,37 +57,37 @@ div-sender : tie.Need-div-sender
 div-sender c = ?
 
 rem-sender : tie.Need-rem-sender
-rem-sender c = ?
+rem-sender c = search needs
 
 add-sender : tie.Need-add-sender
 add-sender c = ?
 
 div-t18 : tie.Need-div-t18
-div-t18 c = ?
+div-t18 c = search needs
 
 rem-t29 : tie.Need-rem-t29
-rem-t29 c = ?
+rem-t29 c = search needs
 
 add-t30 : tie.Need-add-t30
 add-t30 c = ?
 
 rem-t31 : tie.Need-rem-t31
-rem-t31 c = ?
+rem-t31 c = search needs
 
 add-t32 : tie.Need-add-t32
 add-t32 c = ?
 
 slice-aggregate-write-line-3 : tie.Need-slice-aggregate-write-line-3
-slice-aggregate-write-line-3 c = ?
+slice-aggregate-write-line-3 c = search needs
 
 slice-aggregate-write-line-4 : tie.Need-slice-aggregate-write-line-4
-slice-aggregate-write-line-4 c = ?
+slice-aggregate-write-line-4 c = search needs
 
 write-line-requires-2 : tie.Need-write-line-requires-2
-write-line-requires-2 c κs = ?
+write-line-requires-2 c κs = search needs
 
 same-length-2 : tie.Need-same-length-2
-same-length-2 c = ?
+same-length-2 c = search needs
 
 returns-4 : tie.Need-returns-4
 returns-4 c = ?
