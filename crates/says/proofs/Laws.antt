@@ -81,6 +81,13 @@ module _ (n : ℕ) (numbers : List ℕ) where
 
 -- a line that is understood, both ways
 module _ (n t : ℕ) (numbers : List ℕ) where
+  pub all-meant : fitsStep n numbers ≡ true → Among (t + 1) (iterationIn numbers) → Among n (senderIn numbers) →
+      Among n (receiverIn numbers) → isMeant n t numbers ≡ true
+  unfolding isMeant
+  all-meant fits iteration sender receiver =
+      both fits
+      (both (among-within _ _ iteration) (both (among-within _ _ sender) (among-within _ _ receiver)))
+
   pub meant-of : isMeant n t numbers ≡ true → Meant n t numbers
   unfolding isMeant
   meant-of e =
