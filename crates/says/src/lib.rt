@@ -2,10 +2,8 @@
 // a table, and the line that is told where a text or a file is bad.
 use lines::Written;
 ghost use mathlib.Core.Path.{_≡_};
-ghost use mathlib.Core.Bool.{true};
-ghost use Prim.Native.Nat.{_≤_, _<_};
+ghost use Prim.Native.Nat.{_≤_};
 ghost use lib.ListN.{length};
-ghost use Rattle.sizes.specs.Sizes.{tableRows};
 ghost use Rattle.says.specs.Say.{
   within,
   fitsStep,
@@ -16,7 +14,7 @@ ghost use Rattle.says.specs.Say.{
   sayReply,
   sayWrites,
 };
-ghost use Rattle.says.specs.Told.{faultLine, toldText, textReply, textWrites};
+ghost use Rattle.says.specs.Told.{faultLine, sentence, toldText, textReply, textWrites};
 ghost use Rattle.says.specs.Inside.{Meant};
 
 // The reply of the place of a line: the refusal's number, or 0 with whether the line is understood, and where in the
@@ -78,7 +76,7 @@ fn is_meant(n: u8, t: u8, numbers: &[u64]) -> bool
 // The place of the table that a line names.
 fn place_said(n: u8, t: u8, numbers: &[u64]) -> usize
     requires { ⌜ (n ≤ 13) × Meant n t (now numbers) ⌝ }
-    ensures { λ r. ⌜ (r ≡ placeSaid n (now (numbers .entry))) × (r < tableRows n) ⌝ }
+    ensures { λ r. ⌜ r ≡ placeSaid n (now (numbers .entry)) ⌝ }
 {
     let boxes = n as usize;
     let sender = numbers[2] as usize - 1;
@@ -173,7 +171,7 @@ pub fn write_say(n: u8, table: u8, place: u16, row: u64, out: &mut [u8]) -> Writ
     lines::write_line(out, b"say", &numbers)
 }
 
-// Writes the line of a fault: `line`, its number, and the sentence. Refusal 10.
+// Writes the line of a fault with this sentence: `line`, its number, and the sentence. Refusal 10.
 fn write_fault(line: u64, said: &[u8], out: &mut [u8]) -> Written
     requires { ⌜ length (now said) ≤ 100 ⌝ }
     ensures { λ r. ⌜ r ≡ textReply (faultLine line (now (said .entry))) (length (now (out .entry))) ⌝ }
@@ -193,20 +191,12 @@ fn write_fault(line: u64, said: &[u8], out: &mut [u8]) -> Written
     Written { refusal: 0, size }
 }
 
-// Writes what is told where no file comes of a text, or no text of a file: the refusal, or else the fault of a line;
-// nothing where there is neither. Refusal 10.
-pub fn tell(refusal: u8, line: u64, fault: u8, out: &mut [u8]) -> Written
-    ensures { λ r. ⌜ r ≡ textReply (toldText refusal line fault) (length (now (out .entry))) ⌝ }
-    ensures { λ r. ⌜ now (out .exit) ≡ textWrites (toldText refusal line fault) (now (out .entry)) ⌝ }
+// Writes the line of a fault with the sentence of its number. Refusal 10.
+fn tell_fault(line: u64, fault: u8, out: &mut [u8]) -> Written
+    ensures { λ r. ⌜ r ≡ textReply (faultLine line (sentence fault)) (length (now (out .entry))) ⌝ }
+    ensures { λ r. ⌜ now (out .exit) ≡ textWrites (faultLine line (sentence fault)) (now (out .entry)) ⌝ }
 {
-    if refusal != 0 {
-        return lines::write_line(out, b"refused", &[refusal as u64]);
-    }
     match fault {
-        0 => Written {
-            refusal: 0,
-            size: 0,
-        },
         1 => write_fault(
             line,
             b": a line that is no comment has at most 1,000 bytes\n",
@@ -230,4 +220,22 @@ pub fn tell(refusal: u8, line: u64, fault: u8, out: &mut [u8]) -> Written
         ),
         _ => write_fault(line, b": this line is not understood\n", out),
     }
+}
+
+// Writes what is told where no file comes of a text, or no text of a file: the refusal, or else the fault of a line;
+// nothing where there is neither. Refusal 10.
+pub fn tell(refusal: u8, line: u64, fault: u8, out: &mut [u8]) -> Written
+    ensures { λ r. ⌜ r ≡ textReply (toldText refusal line fault) (length (now (out .entry))) ⌝ }
+    ensures { λ r. ⌜ now (out .exit) ≡ textWrites (toldText refusal line fault) (now (out .entry)) ⌝ }
+{
+    if refusal != 0 {
+        return lines::write_line(out, b"refused", &[refusal as u64]);
+    }
+    if fault == 0 {
+        return Written {
+            refusal: 0,
+            size: 0,
+        };
+    }
+    tell_fault(line, fault, out)
 }

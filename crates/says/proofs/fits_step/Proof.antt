@@ -1,49 +1,61 @@
+-- `says::fits_step` meets its contract: fewer than five numbers fit no step; in step 1 there are five; in any other
+-- the tests come one by one, and the first that fails makes the whole false. Assumes nothing.
+use mathlib.Core.Path.{_≡_, refl, sym, _∙_}
+use borrow.Author.Tests.{eq-eqb, ne-eqb, not-true, not-false}
+use Rattle.counting.proofs.Bools.{not-both, and-false-right}
+use Rattle.says.specs.Say.{stepIn, leaderIn, within, fitsStep}
+use Rattle.says.proofs.Laws.{six, fits-none, fits-first, fits-later}
 use borrow.Author.Needs.{needs}
 use Rattle.says.proofs.fits_step.Statement.{statement}
 use Rattle.says.proofs.fits_step.Tie as tie
-use Rattle.says.proofs.fits_step.Reads as reads
-use Rattle.says.proofs.fits_step.Lts as lts
-use Rattle.says.proofs.is_within.Reads as is-within-reads
 
--- src/lib.rt:45:9
+abbrev start-of : tie.After-is-within → tie.Start
+start-of c = c .before .before .before .before .before .before
+
+-- where the step is not 1
+later-of : (c : tie.After-is-within) →
+    fitsStep (start-of c .args .n) (start-of c .args .numbers .now)
+    ≡ six (start-of c .args .n) (start-of c .args .numbers .now)
+later-of c = fits-later _ _ (c .before .before .if2 .left)
+
 returns : tie.Need-returns
-returns c = search needs
+returns c = sym (fits-none (c .before .before .args .n) _ (c .if1 .taken))
 
--- src/lib.rt:47:8
 shared-slice-read-if2 : tie.Need-shared-slice-read-if2
 shared-slice-read-if2 c = search needs
 
--- src/lib.rt:48:9
 returns-2 : tie.Need-returns-2
-returns-2 c = search needs
+returns-2 c = sym (fits-first (c .before .before .before .before .args .n) _ (c .if2 .taken))
 
--- src/lib.rt:50:22
 shared-slice-read-is-within : tie.Need-shared-slice-read-is-within
 shared-slice-read-is-within c = search needs
 
--- src/lib.rt:50:9
 is-within-requires : tie.Need-is-within-requires
 is-within-requires c κs = search needs
 
--- src/lib.rt:51:9
 returns-3 : tie.Need-returns-3
-returns-3 c = search needs
+returns-3 c = sym (later-of (c .before) ∙ not-both _ (sym (c .before .is-within .ensures) ∙ not-true _ (c .if3 .taken)))
 
--- src/lib.rt:54:9
 returns-4 : tie.Need-returns-4
-returns-4 c = search needs
+returns-4 c =
+    let w = c .before .before in
+    let numbers = start-of w .args .numbers .now in
+    sym
+    (later-of w
+    ∙ and-false-right (within 3 (stepIn numbers))
+    (not-both (within (start-of w .args .n) (leaderIn numbers)) (ne-eqb _ 6 (c .if4 .taken))))
 
--- src/lib.rt:56:18
 shared-slice-read-is-within-2 : tie.Need-shared-slice-read-is-within-2
 shared-slice-read-is-within-2 c = search needs
 
--- src/lib.rt:56:5
 is-within-requires-2 : tie.Need-is-within-requires-2
 is-within-requires-2 c κs = search needs
 
--- src/lib.rt:41:1
 returns-5 : tie.Need-returns-5
-returns-5 c = search needs
+returns-5 c =
+    let w = c .before .before .before .before in
+    let step = sym (w .is-within .ensures) ∙ not-false _ (c .before .before .before .if3 .left) in
+    c .is-within2 .ensures ∙ sym (later-of w ∙ rw (step, eq-eqb _ 6 (c .before .before .if4 .left)) refl)
 
 pub fits-step-spec : {M : Type 1} → statement M
 fits-step-spec =

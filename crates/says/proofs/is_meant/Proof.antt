@@ -1,62 +1,82 @@
+-- `says::is_meant` meets its contract: the tests come one by one, the first that fails makes the whole false, and
+-- fewer than five numbers fit no step. Assumes nothing.
+use mathlib.Core.Path.{_≡_, refl, sym, _∙_}
+use mathlib.Core.Bool.{true}
+use Prim.Native.Nat.{_+_}
+use borrow.Author.Tests.{not-true, not-false}
+use Rattle.says.specs.Say.{within, iterationIn, senderIn, fitsStep, isMeant}
+use Rattle.says.proofs.Laws.{fits-none}
 use borrow.Author.Needs.{needs}
 use Rattle.says.proofs.is_meant.Statement.{statement}
 use Rattle.says.proofs.is_meant.Tie as tie
-use Rattle.says.proofs.is_meant.Reads as reads
-use Rattle.says.proofs.is_meant.Lts as lts
-use Rattle.says.proofs.fits_step.Reads as fits-step-reads
-use Rattle.says.proofs.is_within.Reads as is-within-reads
 
--- src/lib.rt:63:9
+abbrev start-of : tie.Else1 → tie.Start
+start-of c = c .before .before .before
+
+-- where the tests so far have passed
+fits-of : (c : tie.Else1) → fitsStep (start-of c .args .n) (start-of c .args .numbers .now) ≡ true
+fits-of c = sym (c .before .fits-step .ensures) ∙ not-false _ (c .if1 .left)
+
+abbrev fitting-of : tie.After-is-within → tie.Else1
+fitting-of c = c .before .before .before
+
+iteration-of : (c : tie.Else3) →
+    within (start-of (fitting-of (c .before)) .args .t + 1)
+    (iterationIn (start-of (fitting-of (c .before)) .args .numbers .now)) ≡ true
+iteration-of c = sym (c .before .is-within .ensures) ∙ not-false _ (c .if3 .left)
+
 fits-step-requires : tie.Need-fits-step-requires
 fits-step-requires c κs = search needs
 
--- src/lib.rt:64:9
 returns : tie.Need-returns
-returns c = search needs
+unfolding isMeant
+returns c = rw (sym (c .before .fits-step .ensures) ∙ not-true _ (c .if1 .taken)) refl
 
--- src/lib.rt:67:9
 returns-2 : tie.Need-returns-2
-returns-2 c = search needs
+unfolding isMeant
+returns-2 c = rw (fits-none (c .before .before .before .before .args .n) _ (c .if2 .taken)) refl
 
--- src/lib.rt:69:19
 add-is-within : tie.Need-add-is-within
 add-is-within c = search needs
 
--- src/lib.rt:69:33
 shared-slice-read-is-within : tie.Need-shared-slice-read-is-within
 shared-slice-read-is-within c = search needs
 
--- src/lib.rt:69:9
 is-within-requires : tie.Need-is-within-requires
 is-within-requires c κs = search needs
 
--- src/lib.rt:70:9
 returns-3 : tie.Need-returns-3
-returns-3 c = search needs
+unfolding isMeant
+returns-3 c =
+    let no = sym (c .before .is-within .ensures) ∙ not-true _ (c .if3 .taken) in
+    rw (fits-of (fitting-of (c .before)), no) refl
 
--- src/lib.rt:72:29
 shared-slice-read-is-within-2 : tie.Need-shared-slice-read-is-within-2
 shared-slice-read-is-within-2 c = search needs
 
--- src/lib.rt:72:9
 is-within-requires-2 : tie.Need-is-within-requires-2
 is-within-requires-2 c κs = search needs
 
--- src/lib.rt:73:9
 returns-4 : tie.Need-returns-4
-returns-4 c = search needs
+unfolding isMeant
+returns-4 c =
+    let passed = c .before .before .before in
+    let no = sym (c .before .is-within2 .ensures) ∙ not-true _ (c .if4 .taken) in
+    rw (fits-of (fitting-of (passed .before)), iteration-of passed, no) refl
 
--- src/lib.rt:75:25
 shared-slice-read-is-within-3 : tie.Need-shared-slice-read-is-within-3
 shared-slice-read-is-within-3 c = search needs
 
--- src/lib.rt:75:5
 is-within-requires-3 : tie.Need-is-within-requires-3
 is-within-requires-3 c κs = search needs
 
--- src/lib.rt:60:1
 returns-5 : tie.Need-returns-5
-returns-5 c = search needs
+unfolding isMeant
+returns-5 c =
+    let sender = c .before .before in
+    let passed = sender .before .before .before in
+    let yes = sym (sender .before .is-within2 .ensures) ∙ not-false _ (sender .if4 .left) in
+    c .is-within3 .ensures ∙ rw (fits-of (fitting-of (passed .before)), iteration-of passed, yes) refl
 
 pub is-meant-spec : {M : Type 1} → statement M
 is-meant-spec =

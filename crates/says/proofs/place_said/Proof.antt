@@ -1,88 +1,114 @@
+-- `says::place_said` meets its contract: sender, receiver and leader are digits in base n, so the places of a step are
+-- below n² or n³, and n is at most 13. Assumes nothing.
+use mathlib.Core.Path.{sym}
+use Prim.Native.Nat.{_<_}
+use native.Mathlib.Omega.{arith}
+use Rattle.sizes.proofs.Laws.{square-le, cube-le}
+use Rattle.says.proofs.Places.{
+  pair,
+  triple,
+  pair-fits,
+  triple-fits,
+  said-first,
+  said-second,
+  said-third,
+}
 use borrow.Author.Needs.{needs}
 use Rattle.says.proofs.place_said.Statement.{statement}
 use Rattle.says.proofs.place_said.Tie as tie
-use Rattle.says.proofs.place_said.Reads as reads
-use Rattle.says.proofs.place_said.Lts as lts
 
--- src/lib.rt:84:18
+abbrev start-of : tie.After-shared-slice-known2 → tie.Start
+start-of c = c .before .before
+
+-- the place of sender and receiver is below 169
+pair-of : (c : tie.After-shared-slice-known2) →
+    pair (start-of c .args .n) (start-of c .args .numbers .now) < 169
+pair-of c =
+    let s = start-of c in
+    omega (arith, pair-fits (s .args .n) (s .args .numbers .now) (s .pre .1), square-le (s .pre .0))
+
+abbrev first-of : tie.After-shared-slice-known4 → tie.Start
+first-of c = start-of (c .before .before .before)
+
+-- with the leader it is below 2,197
+triple-of : (c : tie.After-shared-slice-known4) →
+    triple (first-of c .args .n) (first-of c .args .numbers .now) < 2197
+triple-of c =
+    let s = first-of c in
+    omega (
+      arith,
+      triple-fits (s .args .n) (s .args .numbers .now) (s .pre .1) (c .before .if1 .left),
+      cube-le (s .pre .0),
+    )
+
 shared-slice-read-sender : tie.Need-shared-slice-read-sender
 shared-slice-read-sender c = search needs
 
--- src/lib.rt:84:18
 sub-sender : tie.Need-sub-sender
 sub-sender c = search needs
 
--- src/lib.rt:85:20
 shared-slice-read-receiver : tie.Need-shared-slice-read-receiver
 shared-slice-read-receiver c = search needs
 
--- src/lib.rt:85:20
 sub-receiver : tie.Need-sub-receiver
 sub-receiver c = search needs
 
--- src/lib.rt:86:16
 mul-pair : tie.Need-mul-pair
-mul-pair c = search needs
+mul-pair c = omega (arith, pair-of c)
 
--- src/lib.rt:86:16
 add-pair : tie.Need-add-pair
-add-pair c = search needs
+add-pair c = omega (arith, pair-of c)
 
--- src/lib.rt:87:8
 shared-slice-read-if1 : tie.Need-shared-slice-read-if1
 shared-slice-read-if1 c = search needs
 
--- src/lib.rt:88:9
 returns : tie.Need-returns
-returns c = search needs
+returns c = sym (said-first (c .before .before .before .before .args .n) _ (c .if1 .taken))
 
--- src/lib.rt:90:18
 shared-slice-read-leader : tie.Need-shared-slice-read-leader
 shared-slice-read-leader c = search needs
 
--- src/lib.rt:90:18
 sub-leader : tie.Need-sub-leader
-sub-leader c = search needs
+sub-leader c = first-of c .pre .1 .leader (c .before .if1 .left) .low
 
--- src/lib.rt:91:18
 mul-square : tie.Need-mul-square
-mul-square c = search needs
+mul-square c = omega (arith, square-le (first-of c .pre .0))
 
--- src/lib.rt:92:17
 mul-place : tie.Need-mul-place
-mul-place c = search needs
+mul-place c = omega (arith, triple-of c)
 
--- src/lib.rt:92:17
 add-place : tie.Need-add-place
-add-place c = search needs
+add-place c = omega (arith, triple-of c)
 
--- src/lib.rt:93:8
 shared-slice-read-if2 : tie.Need-shared-slice-read-if2
 shared-slice-read-if2 c = search needs
 
--- src/lib.rt:94:16
 add-result : tie.Need-add-result
-add-result c = search needs
+add-result c =
+    let l = c .before .before in
+    omega (arith, triple-of l, square-le (first-of l .pre .0))
 
--- src/lib.rt:94:9
 returns-2 : tie.Need-returns-2
-returns-2 c = search needs
+returns-2 c = sym (said-second (first-of (c .before .before) .args .n) _ (c .if2 .taken))
 
--- src/lib.rt:96:14
 mul-result : tie.Need-mul-result
-mul-result c = search needs
+mul-result c = omega (arith, cube-le (first-of (c .before .before) .pre .0))
 
--- src/lib.rt:96:5
 add-result-2 : tie.Need-add-result-2
-add-result-2 c = search needs
+add-result-2 c =
+    let few = first-of (c .before .before) .pre .0 in
+    omega (arith, square-le few, cube-le few)
 
--- src/lib.rt:96:5
 add-result-3 : tie.Need-add-result-3
-add-result-3 c = search needs
+add-result-3 c =
+    let l = c .before .before in
+    let few = first-of l .pre .0 in
+    omega (arith, triple-of l, square-le few, cube-le few)
 
--- src/lib.rt:79:1
 returns-3 : tie.Need-returns-3
-returns-3 c = search needs
+returns-3 c =
+    let l = c .before .before in
+    sym (said-third (first-of l .args .n) _ (l .before .if1 .left) (c .if2 .left))
 
 pub place-said-spec : {M : Type 1} → statement M
 place-said-spec =

@@ -1,130 +1,59 @@
+-- `says::tell` meets its contract: a refusal is told as a line, else a fault by its sentence, and where there is
+-- neither the slice stays as it is, as an empty text leaves it. Assumes nothing.
+use mathlib.Core.Path.{_≡_, refl, sym, _∙_}
+use mathlib.Core.List.{[], _∷_}
+use native.Mathlib.Omega.{arith}
 use borrow.Author.Needs.{needs}
+use borrow.Author.Tests.{eq-eqb, ne-eqb}
+use Rattle.lines.proofs.Placed.{placed-none}
+use Rattle.listing.specs.Listing.{refused-word}
+use Rattle.says.specs.Told.{toldText}
+use Rattle.says.proofs.Faults.{text-given, text-written, line-told, line-kept}
 use Rattle.says.proofs.tell.Statement.{statement}
 use Rattle.says.proofs.tell.Tie as tie
-use Rattle.says.proofs.tell.Reads as reads
-use Rattle.says.proofs.tell.Lts as lts
-use Rattle.lines.proofs.write_line.Reads as write-line-reads
-use Rattle.says.proofs.write_fault.Reads as write-fault-reads
+use Rattle.says.proofs.tell.Reads as Reads
 
--- src/lib.rt:203:39
 slice-aggregate-write-line : tie.Need-slice-aggregate-write-line
 slice-aggregate-write-line c = search needs
 
--- src/lib.rt:203:51
 slice-aggregate-write-line-2 : tie.Need-slice-aggregate-write-line-2
 slice-aggregate-write-line-2 c = search needs
 
--- src/lib.rt:203:9
 write-line-requires : tie.Need-write-line-requires
 write-line-requires c κs = search needs
 
--- src/lib.rt:203:9
 same-length : tie.Need-same-length
 same-length c = search needs
 
--- src/lib.rt:203:9
 returns : tie.Need-returns
-returns c = search needs
+unfolding toldText
+returns c =
+    let branch = c .before .before .before .before .before .before in
+    let a = branch .before .before .args in
+    let e = c .before .before .write-line .ensures in
+    rw (ne-eqb (a .refusal) 0 (branch .if1 .taken))
+    (e .0 ∙ line-told refused-word (a .refusal ∷ []) _, e .1 ∙ line-kept refused-word (a .refusal ∷ []) _)
 
--- src/lib.rt:212:13
-slice-aggregate-write-fault : tie.Need-slice-aggregate-write-fault
-slice-aggregate-write-fault c = search needs
-
--- src/lib.rt:210:14
-write-fault-requires : tie.Need-write-fault-requires
-write-fault-requires c κs = search needs
-
--- src/lib.rt:215:32
-slice-aggregate-write-fault-2 : tie.Need-slice-aggregate-write-fault-2
-slice-aggregate-write-fault-2 c = search needs
-
--- src/lib.rt:215:14
-write-fault-requires-2 : tie.Need-write-fault-requires-2
-write-fault-requires-2 c κs = search needs
-
--- src/lib.rt:218:13
-slice-aggregate-write-fault-3 : tie.Need-slice-aggregate-write-fault-3
-slice-aggregate-write-fault-3 c = search needs
-
--- src/lib.rt:216:14
-write-fault-requires-3 : tie.Need-write-fault-requires-3
-write-fault-requires-3 c κs = search needs
-
--- src/lib.rt:223:13
-slice-aggregate-write-fault-4 : tie.Need-slice-aggregate-write-fault-4
-slice-aggregate-write-fault-4 c = search needs
-
--- src/lib.rt:221:14
-write-fault-requires-4 : tie.Need-write-fault-requires-4
-write-fault-requires-4 c κs = search needs
-
--- src/lib.rt:228:13
-slice-aggregate-write-fault-5 : tie.Need-slice-aggregate-write-fault-5
-slice-aggregate-write-fault-5 c = search needs
-
--- src/lib.rt:226:14
-write-fault-requires-5 : tie.Need-write-fault-requires-5
-write-fault-requires-5 c κs = search needs
-
--- src/lib.rt:231:32
-slice-aggregate-write-fault-6 : tie.Need-slice-aggregate-write-fault-6
-slice-aggregate-write-fault-6 c = search needs
-
--- src/lib.rt:231:14
-write-fault-requires-6 : tie.Need-write-fault-requires-6
-write-fault-requires-6 c κs = search needs
-
--- src/lib.rt:198:1
 returns-2 : tie.Need-returns-2
-returns-2 c = search needs
+unfolding toldText
+returns-2 c =
+    let a = c .before .before .before .args in
+    rw (eq-eqb (a .refusal) 0 (c .before .if1 .left), eq-eqb (a .fault) 0 (c .if2 .taken))
+    (text-given [] _ 0 refl (omega arith), placed-none (a .out .now) 0 ∙ text-written [] _ (omega arith))
 
--- src/lib.rt:198:1
+tell-fault-requires : tie.Need-tell-fault-requires
+tell-fault-requires c κs = search needs
+
 same-length-2 : tie.Need-same-length-2
 same-length-2 c = search needs
 
--- src/lib.rt:198:1
 returns-3 : tie.Need-returns-3
-returns-3 c = search needs
-
--- src/lib.rt:198:1
-same-length-3 : tie.Need-same-length-3
-same-length-3 c = search needs
-
--- src/lib.rt:198:1
-returns-4 : tie.Need-returns-4
-returns-4 c = search needs
-
--- src/lib.rt:198:1
-same-length-4 : tie.Need-same-length-4
-same-length-4 c = search needs
-
--- src/lib.rt:198:1
-returns-5 : tie.Need-returns-5
-returns-5 c = search needs
-
--- src/lib.rt:198:1
-same-length-5 : tie.Need-same-length-5
-same-length-5 c = search needs
-
--- src/lib.rt:198:1
-returns-6 : tie.Need-returns-6
-returns-6 c = search needs
-
--- src/lib.rt:198:1
-same-length-6 : tie.Need-same-length-6
-same-length-6 c = search needs
-
--- src/lib.rt:198:1
-returns-7 : tie.Need-returns-7
-returns-7 c = search needs
-
--- src/lib.rt:198:1
-same-length-7 : tie.Need-same-length-7
-same-length-7 c = search needs
-
--- src/lib.rt:198:1
-returns-8 : tie.Need-returns-8
-returns-8 c = search needs
+unfolding toldText
+returns-3 c =
+    let branch = c .before .before .before .before in
+    let a = branch .before .before .before .args in
+    rw (eq-eqb (a .refusal) 0 (branch .before .if1 .left), ne-eqb (a .fault) 0 (branch .if2 .left))
+    (c .before .before .tell-fault .ensures)
 
 pub tell-spec : {M : Type 1} → statement M
 tell-spec =
@@ -135,28 +64,12 @@ tell-spec =
     write-line-requires
     same-length
     returns
-    slice-aggregate-write-fault
-    write-fault-requires
-    slice-aggregate-write-fault-2
-    write-fault-requires-2
-    slice-aggregate-write-fault-3
-    write-fault-requires-3
-    slice-aggregate-write-fault-4
-    write-fault-requires-4
-    slice-aggregate-write-fault-5
-    write-fault-requires-5
-    slice-aggregate-write-fault-6
-    write-fault-requires-6
     returns-2
+    tell-fault-requires
     same-length-2
-    returns-3
-    same-length-3
-    returns-4
-    same-length-4
-    returns-5
-    same-length-5
-    returns-6
-    same-length-6
-    returns-7
-    same-length-7
-    returns-8)
+    returns-3)
+
+-- the contract admits one reply, and one last contents of the slice
+pub only-one : (κs : _) (a : _) (r s : _) (x y : _) → Reads.Post κs a r x → Reads.Post κs a s y →
+    (r ≡ s) × (x .1 .1 .1 .0 .now ≡ y .1 .1 .1 .0 .now)
+only-one κs a r s x y p q = (p .0 ∙ sym (q .0), p .1 ∙ sym (q .1))

@@ -1,125 +1,137 @@
+-- `says::write_say` meets its contract: n outside 1 to 13 is refused; inside it nothing divides by 0, all numbers are
+-- small, and they are those of the line, which is then written. Assumes nothing.
+use mathlib.Core.Path.{_≡_, refl, sym, _∙_}
+use Prim.Native.Nat.{_-_, _*_, _/_, _≤_}
+use native.Mathlib.Nat.{mul-pos, div-le-self, mod-le}
+use native.Mathlib.Omega.{arith}
+use borrow.Author.Tests.{lt-ltb, le-ltb}
+use Rattle.sizes.proofs.Laws.{inside, outside-low, outside-high, square-le, cube-le}
+use Rattle.says.specs.Say.{laterNumbers, sayNumbers, sayReply, sayWrites}
 use borrow.Author.Needs.{needs}
 use Rattle.says.proofs.write_say.Statement.{statement}
 use Rattle.says.proofs.write_say.Tie as tie
-use Rattle.says.proofs.write_say.Reads as reads
-use Rattle.says.proofs.write_say.Lts as lts
-use Rattle.lines.proofs.write_line.Reads as write-line-reads
+use Rattle.says.proofs.write_say.Reads as Reads
 
--- src/lib.rt:143:9
+abbrev start-of : tie.Else2 → tie.Start
+start-of c = c .before .before .before
+
+-- n is 1 to 13
+low-of : (c : tie.Else2) → 1 ≤ start-of c .args .n
+low-of c = c .before .if1 .left
+
+high-of : (c : tie.Else2) → start-of c .args .n ≤ 13
+high-of c = c .if2 .left
+
 returns : tie.Need-returns
-returns c = search needs
+unfolding sayReply sayWrites
+returns c = rw (outside-low _ (c .if1 .taken)) (refl, refl)
 
--- src/lib.rt:149:9
 returns-2 : tie.Need-returns-2
-returns-2 c = search needs
+unfolding sayReply sayWrites
+returns-2 c = rw (outside-high _ (c .if2 .taken)) (refl, refl)
 
--- src/lib.rt:155:18
 mul-square : tie.Need-mul-square
-mul-square c = search needs
+mul-square c = omega (arith, square-le (high-of c))
 
--- src/lib.rt:156:21
 add-iteration : tie.Need-add-iteration
 add-iteration c = search needs
 
--- src/lib.rt:159:42
 div-t19 : tie.Need-div-t19
 div-t19 c = search needs
 
--- src/lib.rt:159:38
 add-t20 : tie.Need-add-t20
-add-t20 c = search needs
+add-t20 c =
+    let a = start-of (c .before) .args in
+    omega (arith, div-le-self (a .place) (a .n))
 
--- src/lib.rt:159:57
 rem-t21 : tie.Need-rem-t21
 rem-t21 c = search needs
 
--- src/lib.rt:159:53
 add-t22 : tie.Need-add-t22
-add-t22 c = search needs
+add-t22 c =
+    let a = start-of (c .before) .args in
+    omega (arith, mod-le (a .place) (a .n))
 
--- src/lib.rt:160:39
 slice-aggregate-write-line : tie.Need-slice-aggregate-write-line
 slice-aggregate-write-line c = search needs
 
--- src/lib.rt:160:47
 slice-aggregate-write-line-2 : tie.Need-slice-aggregate-write-line-2
 slice-aggregate-write-line-2 c = search needs
 
--- src/lib.rt:160:9
 write-line-requires : tie.Need-write-line-requires
 write-line-requires c κs = search needs
 
--- src/lib.rt:160:9
 same-length : tie.Need-same-length
 same-length c = search needs
 
--- src/lib.rt:160:9
 returns-3 : tie.Need-returns-3
-returns-3 c = search needs
+unfolding sayReply sayWrites sayNumbers
+returns-3 c =
+    let branch = c .before .before .before .before .before .before in
+    rw (inside _ (low-of (branch .before)) (high-of (branch .before)), lt-ltb _ _ (branch .if3 .taken))
+    (c .before .before .write-line .ensures)
 
--- src/lib.rt:163:25
 mul-step : tie.Need-mul-step
-mul-step c = search needs
+mul-step c = omega (arith, cube-le (high-of (c .before)))
 
--- src/lib.rt:163:20
 div-step : tie.Need-div-step
-div-step c = search needs
+div-step c = mul-pos (mul-pos (low-of (c .before)) (low-of (c .before))) (low-of (c .before))
 
--- src/lib.rt:163:16
 add-step : tie.Need-add-step
-add-step c = search needs
+add-step c =
+    let a = start-of (c .before) .args in
+    omega (arith, div-le-self (a .place - a .n * a .n) (a .n * a .n * a .n))
 
--- src/lib.rt:164:22
 div-sender : tie.Need-div-sender
-div-sender c = search needs
+div-sender c = mul-pos (low-of (c .before)) (low-of (c .before))
 
--- src/lib.rt:164:22
 rem-sender : tie.Need-rem-sender
 rem-sender c = search needs
 
--- src/lib.rt:164:18
 add-sender : tie.Need-add-sender
-add-sender c = search needs
+add-sender c =
+    let a = start-of (c .before) .args in
+    let q = a .place - a .n * a .n in
+    omega (arith, mod-le (q / (a .n * a .n)) (a .n), div-le-self q (a .n * a .n))
 
--- src/lib.rt:169:13
 div-t18 : tie.Need-div-t18
 div-t18 c = search needs
 
--- src/lib.rt:169:13
 rem-t29 : tie.Need-rem-t29
 rem-t29 c = search needs
 
--- src/lib.rt:169:9
 add-t30 : tie.Need-add-t30
-add-t30 c = search needs
+add-t30 c =
+    let a = start-of (c .before) .args in
+    let q = a .place - a .n * a .n in
+    omega (arith, mod-le (q / a .n) (a .n), div-le-self q (a .n))
 
--- src/lib.rt:170:13
 rem-t31 : tie.Need-rem-t31
 rem-t31 c = search needs
 
--- src/lib.rt:170:9
 add-t32 : tie.Need-add-t32
-add-t32 c = search needs
+add-t32 c =
+    let a = start-of (c .before) .args in
+    omega (arith, mod-le (a .place - a .n * a .n) (a .n))
 
--- src/lib.rt:173:28
 slice-aggregate-write-line-3 : tie.Need-slice-aggregate-write-line-3
 slice-aggregate-write-line-3 c = search needs
 
--- src/lib.rt:173:36
 slice-aggregate-write-line-4 : tie.Need-slice-aggregate-write-line-4
 slice-aggregate-write-line-4 c = search needs
 
--- src/lib.rt:173:5
 write-line-requires-2 : tie.Need-write-line-requires-2
 write-line-requires-2 c κs = search needs
 
--- src/lib.rt:138:1
 same-length-2 : tie.Need-same-length-2
 same-length-2 c = search needs
 
--- src/lib.rt:138:1
 returns-4 : tie.Need-returns-4
-returns-4 c = search needs
+unfolding sayReply sayWrites sayNumbers laterNumbers
+returns-4 c =
+    let branch = c .before .before .before .before .before .before in
+    rw (inside _ (low-of (branch .before)) (high-of (branch .before)), le-ltb _ _ (branch .if3 .left))
+    (c .before .before .write-line2 .ensures)
 
 pub write-say-spec : {M : Type 1} → statement M
 write-say-spec =
@@ -154,3 +166,8 @@ write-say-spec =
     write-line-requires-2
     same-length-2
     returns-4)
+
+-- the contract admits one reply, and one last contents of the slice
+pub only-one : (κs : _) (a : _) (r s : _) (x y : _) → Reads.Post κs a r x → Reads.Post κs a s y →
+    (r ≡ s) × (x .1 .1 .1 .1 .0 .now ≡ y .1 .1 .1 .1 .0 .now)
+only-one κs a r s x y p q = (p .0 ∙ sym (q .0), p .1 ∙ sym (q .1))
