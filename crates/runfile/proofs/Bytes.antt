@@ -28,7 +28,8 @@ number-in-bytes zero value l = sym (lt-one l)
 number-in-bytes (suc size) value l =
     let first = inBytes size (value / 256) in
     let more : value < 256 ^ size * 256 = subst (λ (m : ℕ). value < m) (pow-suc 256 size) l in
-    let high : value / 256 < 256 ^ size = div-lt-iff-lt-mul {k = 256} {x = value} {y = 256 ^ size} (omega arith) .1 more in
+    let high : value / 256 < 256 ^ size =
+    div-lt-iff-lt-mul {k = 256} {x = value} {y = 256 ^ size} (omega arith) .1 more in
     let long : length first ≡ size = length-in-bytes size (value / 256) in
     let before : number (first ++ ((value % 256) ∷ [])) 0 size ≡ value / 256 =
     number-ext (first ++ ((value % 256) ∷ [])) first 0 0 size

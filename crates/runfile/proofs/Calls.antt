@@ -1,6 +1,6 @@
 -- There and back, said of calls: of every reply of the readers and the writers, with the last contents of the slice,
--- that meets the function's contract as the toolchain states it. What was written is read as it was given, and what was
--- read is written as it stood, but for a t byte of 255. Assumes nothing.
+-- that meets the function's contract as the toolchain states it. What was written is read as it was given, and what
+-- was read is written as it stood, but for a t byte of 255. Assumes nothing.
 use mathlib.Core.Path.{_≡_, refl, sym, ap, ap₂, subst, _∙_}
 use mathlib.Core.List.{List, []}
 use Prim.Native.Nat.{ℕ, _*_, _≤_}
@@ -12,7 +12,14 @@ use Rattle.sizes.specs.Sizes.{Startable, tableRows}
 use Rattle.runfile.specs.declared.Heading.{Heading}
 use Rattle.runfile.specs.declared.write.Wrote.{Wrote}
 use Rattle.runfile.specs.File.{nOf, tByte, tOf, faultyOf, headingBytes, headingRow, tableRow, AllBytes, AllRows}
-use Rattle.runfile.specs.Reply.{headingOf, headingRefusal, headingReply, headingWrites, tableRefusal, tableWrites}
+use Rattle.runfile.specs.Reply.{
+  headingOf,
+  headingRefusal,
+  headingReply,
+  headingWrites,
+  tableRefusal,
+  tableWrites,
+}
 use Rattle.runfile.specs.Write.{
   headingFile,
   tableFile,
@@ -44,7 +51,15 @@ use Rattle.runfile.proofs.Written.{
   write-table-size,
   write-table-front,
 }
-use Rattle.runfile.proofs.Trip.{heading-back, heading-rows-back, heading-again, heading-same-again, table-back, table-rows-back, table-again}
+use Rattle.runfile.proofs.Trip.{
+  heading-back,
+  heading-rows-back,
+  heading-again,
+  heading-same-again,
+  table-back,
+  table-rows-back,
+  table-again,
+}
 use Rattle.runfile.proofs.read_heading.Reads as ReadHeadingReads
 use Rattle.runfile.proofs.read_table.Reads as ReadTableReads
 use Rattle.runfile.proofs.write.write_heading.Reads as WriteHeadingReads

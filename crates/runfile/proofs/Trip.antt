@@ -1,9 +1,9 @@
--- There and back, over the definitions. A heading that a writer wrote is read as it was given, whatever follows it, and
--- so is a table. A heading that was read is written as it stood, but for the t byte, which becomes the t that it stands
--- for: where it is not 255 nothing changes. A table that was read is written as it stood. Assumes nothing.
+-- There and back, over the definitions. A heading that was written is read as it was given, whatever follows it, and
+-- so is a table. A heading that was read is written as it stood, but for the t byte, which becomes the t that it
+-- stands for: where it is not 255 nothing changes. A table that was read is written as it stood. Assumes nothing.
 use mathlib.Core.Path.{_≡_, refl, sym, ap, ap₂, _∙_}
 use mathlib.Core.Bool.{true, false, not, _&&_}
-use mathlib.Core.List.{List, [], _++_}
+use mathlib.Core.List.{List, _++_}
 use Prim.Native.Nat.{ℕ, _+_, _*_, _/_, _%_, _≤_, _<_}
 use native.Mathlib.Nat.{lt-of-lt-of-le}
 use native.Mathlib.Omega.{arith}
@@ -11,28 +11,47 @@ use lib.Dec.{eqb}
 use lib.ListN.{length, getD, take, drop, set, length-take}
 use lib.Seq.{getD-take, getD-append-add, take-add, take-all, length-take-le, set-append-left, set-getD}
 use lib.Pow.{pow-mono}
-use borrow.Author.Tests.{le-ltb, eqb-true, eq-eqb, ne-eqb}
+use borrow.Author.Tests.{eqb-true, ne-eqb}
 use Rattle.counting.specs.Count.{build, front}
-use Rattle.counting.proofs.Bools.{and-left, and-right, and-false-right, cond-false, not-of-true}
+use Rattle.counting.proofs.Bools.{and-left, and-right, and-false-right, cond-false}
 use Rattle.counting.proofs.Build.{getD-build, built, front-take}
-use Rattle.counting.proofs.Refuse.{passed, none-left}
 use Rattle.sizes.specs.Sizes.{Startable, outside, tableRows}
 use Rattle.sizes.proofs.Laws.{inside-high, tolerated-lt, within-lt}
 use Rattle.runfile.specs.declared.Heading.{Heading}
-use Rattle.runfile.specs.File.{number, inBytes, rowsInBytes, hasMark, versionOf, nOf, tByte, faultyOf, tOf, headingBytes, headingRow, tableRow, AllBytes, AllRows}
+use Rattle.runfile.specs.File.{
+  number,
+  inBytes,
+  rowsInBytes,
+  hasMark,
+  versionOf,
+  nOf,
+  tByte,
+  faultyOf,
+  tOf,
+  headingBytes,
+  headingRow,
+  tableRow,
+  AllBytes,
+  AllRows,
+}
 use Rattle.runfile.specs.Reply.{
-  headingTests,
   headingRefusal,
   headingOf,
   headingReply,
   headingWrites,
-  tableTests,
   tableRefusal,
   tableWrites,
 }
 use Rattle.runfile.specs.Inside.{firstNine}
 use Rattle.runfile.specs.Write.{headingFile, tableFile}
-use Rattle.runfile.proofs.Laws.{Readable, heading-given, heading-written, table-written}
+use Rattle.runfile.proofs.Laws.{
+  Readable,
+  readable-passes,
+  heading-given,
+  heading-written,
+  table-passes,
+  table-written,
+}
 use Rattle.runfile.proofs.Put.{length-nine, nine-then-rows}
 use Rattle.runfile.proofs.Written.{length-heading-file, length-table-file}
 use Rattle.runfile.proofs.Follows.{SameHeading, heading-alike, writes-alike}
@@ -96,20 +115,22 @@ module _ (n t faulty : ℕ) (rows : List ℕ) (s : Startable n t faulty rows) (s
   t-of-read = cond-false _ _ not-255
 
   text-passes : (room : ℕ) → n ≤ room → headingRefusal text room ≡ 0
-  unfolding headingRefusal headingTests headingBytes
+  unfolding headingBytes
   text-passes room l =
       let long = length-heading-file n t faulty rows in
-      rw (n-read, t-read, faulty-read, built-read)
-      (passed 1 _ (le-ltb (length text) 9 (omega (arith, long)))
-      ∙ passed 2 _ (not-of-true mark-read)
-      ∙ passed 3 _ (not-of-true (eq-eqb _ _ version-read))
-      ∙ passed 4 _ (s .pass4)
-      ∙ passed 5 _ (and-false-right (not (eqb t 255)) (s .pass5))
-      ∙ passed 6 _ (s .pass6)
-      ∙ passed 8 _ (le-ltb (length text) (9 + 8 * n) (omega (arith, long)))
-      ∙ passed 9 _ (s .pass9)
-      ∙ passed 10 [] (le-ltb room n l)
-      ∙ none-left)
+      let number = not (eqb t 255) in
+      readable-passes text room
+      (record {
+        long = omega (arith, long);
+        mark = mark-read;
+        version = version-read;
+        inside = rw n-read (s .pass4);
+        few = rw (n-read, t-read) (and-false-right number (s .pass5));
+        within = rw (n-read, faulty-read) (s .pass6);
+        whole = omega (arith, long, n-read);
+        nonzero = rw (n-read, faulty-read, built-read) (s .pass9);
+        enough = omega (arith, n-read);
+      })
 
   text-says : headingOf text ≡ said n t faulty
   unfolding headingOf
@@ -214,7 +235,8 @@ module _ (bytes : List ℕ) (room : ℕ) (r : Readable bytes room) (all : AllByt
 
   -- where the t byte is not 255 nothing changes
   pub heading-same-again : (tByte bytes ≡ 255 → ⊥) →
-      set (take (headingBytes (nOf bytes)) bytes) 6 (tOf (nOf bytes) (tByte bytes)) ≡ take (headingBytes (nOf bytes)) bytes
+      set (take (headingBytes (nOf bytes)) bytes) 6 (tOf (nOf bytes) (tByte bytes))
+      ≡ take (headingBytes (nOf bytes)) bytes
   unfolding tOf tByte headingBytes
   heading-same-again d =
       let m = 9 + 8 * nOf bytes in
@@ -226,12 +248,9 @@ module _ (bytes : List ℕ) (room : ℕ) (r : Readable bytes room) (all : AllByt
 module _ (n : ℕ) (rows : List ℕ) (inside : outside n ≡ false) (exact : length rows ≡ tableRows n)
     (small : AllRows rows) (slice : List ℕ) (enough : tableRows n ≤ length slice) where
   pub table-back : tableRefusal n (tableFile n rows) (length slice) ≡ 0
-  unfolding tableRefusal tableTests
   table-back =
-      passed 4 _ inside
-      ∙ passed 8 _ (not-of-true (eq-eqb _ _ (length-table-file n rows)))
-      ∙ passed 10 [] (le-ltb _ _ enough)
-      ∙ none-left
+      table-passes n (tableFile n rows) (length slice)
+      (record { inside = inside; exact = length-table-file n rows; enough = enough })
 
   pub table-rows-back : take (tableRows n) (tableWrites n (tableFile n rows) slice) ≡ rows
   unfolding tableRow tableFile
