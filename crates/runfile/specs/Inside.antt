@@ -1,8 +1,9 @@
 -- What a private function says of its part of the work. No promise of the crate names it.
 use Prim.Native.Nat.{ℕ, _+_}
 use mathlib.Core.List.{List, _∷_, _++_}
-use lib.ListN.{length, take, drop, set}
+use lib.ListN.{take, set}
 use Rattle.runfile.specs.File.{number, inBytes, mark, theVersion}
+use Rattle.runfile.specs.Write.{atFront}
 
 -- a slice with four rows of 8 bytes written from place k on
 unfoldable pub fourFrom : List ℕ → ℕ → List ℕ → ℕ → List ℕ
@@ -17,7 +18,7 @@ fourFrom bytes place rows k =
 
 -- a slice with a text written from a place on, the rest of which stays
 unfoldable pub putFrom : ℕ → List ℕ → List ℕ → List ℕ
-putFrom at text slice = take at slice ++ (text ++ drop (at + length text) slice)
+putFrom at text slice = atFront (take at slice ++ text) slice
 
 -- the heading's 9 bytes before its rows
 unfoldable pub firstNine : ℕ → ℕ → ℕ → List ℕ
