@@ -113,8 +113,8 @@ put-turn at rows xs ys k l e =
     let first = take at xs in
     let long : length (first ++ s) ≡ at + 8 * k =
     front-long at s xs (omega arith) ∙ ap (λ (m : ℕ). at + m) (length-rows-in-bytes rows k) in
-    rw add-one
-    (put-behind (first ++ s) t xs ys (at + 8 * k) long e ∙ ap (λ (zs : List ℕ). atFront zs xs) (append-assoc first s t))
+    let both = append-assoc first s t in
+    rw add-one (put-behind (first ++ s) t xs ys (at + 8 * k) long e ∙ ap (λ (zs : List ℕ). atFront zs xs) both)
 
 -- a heading's bytes are the first nine and the rows
 pub nine-then-rows : (n t faulty : ℕ) (rows : List ℕ) →
