@@ -1,6 +1,7 @@
 -- How the listing of a file ends, told from its heading and its length alone: with the heading's refusal, else with
--- `sent` where the file is as long as its heading and its t + 1 tables together, else with 8. For behind a good heading
--- neither the start nor an iteration is refused, and a table only where its bytes are not all there. Assumes nothing.
+-- `sent` where the file is as long as its heading and its t + 1 tables together, else with 8. For behind a good
+-- heading neither the start nor an iteration is refused, and a table only where its bytes are not all there. Assumes
+-- nothing.
 use mathlib.Core.Path.{_≡_, refl, sym, _∙_}
 use mathlib.Core.Bool.{Bool, true, false, cond, _&&_}
 use mathlib.Core.List.{List}
@@ -38,6 +39,7 @@ use Rattle.listing.specs.Listing.{passed, doneOf, refusedLater, endsWith
 use Rattle.listing.proofs.Heading.{
   first-refused,
   first-passed,
+  none-refused,
   heading-low,
   heading-high,
   heading-starts,
@@ -61,11 +63,11 @@ unfolding tableBytes tableRows
 table-some n l = let square : 1 * 1 ≤ n * n = mul-le-mul l l in omega (arith, square)
 
 -- where a table ends the next begins
-begins-next : (n m : ℕ) → tableBegins n (suc m) ≡ tableBegins n m + tableBytes n
+pub begins-next : (n m : ℕ) → tableBegins n (suc m) ≡ tableBegins n m + tableBytes n
 unfolding tableBegins
 begins-next n m = omega (arith, suc-mul m (tableBytes n))
 
-begins-mono : (n m k : ℕ) → m ≤ k → tableBegins n m ≤ tableBegins n k
+pub begins-mono : (n m k : ℕ) → m ≤ k → tableBegins n m ≤ tableBegins n k
 unfolding tableBegins
 begins-mono n m k l = omega (arith, mul-le-mul-right (tableBytes n) l)
 
@@ -125,10 +127,12 @@ module _ (bytes : List ℕ) (ok : heading bytes .refusal ≡ 0) where
       (le-ltb (doneOf bytes) (due bytes) (omega (arith, e)))
       ∙ exact whole
     where
-      exact : end-of ≤ length bytes → _≡_ {A = ℕ} (cond (goesOn bytes) 8 0) (cond (eqb (length bytes) end-of) 0 8)
+      exact : end-of ≤ length bytes →
+          _≡_ {A = ℕ} (cond (goesOn bytes) 8 0) (cond (eqb (length bytes) end-of) 0 8)
       exact whole = go (ℕ-discrete (length bytes) end-of)
         where
-          go : Dec (length bytes ≡ end-of) → _≡_ {A = ℕ} (cond (goesOn bytes) 8 0) (cond (eqb (length bytes) end-of) 0 8)
+          go : Dec (length bytes ≡ end-of) →
+              _≡_ {A = ℕ} (cond (goesOn bytes) 8 0) (cond (eqb (length bytes) end-of) 0 8)
           go (yes z) =
               cond-false _ _ (le-ltb end-of (length bytes) (omega arith)) ∙ sym (cond-true _ _ (eq-eqb _ _ z))
           go (no d) =
@@ -157,7 +161,8 @@ module _ (bytes : List ℕ) (ok : heading bytes .refusal ≡ 0) where
   good-ends : endsWith bytes ≡ cond (eqb (length bytes) (tableBegins (heading bytes .n) (due bytes))) 0 8
   unfolding endsWith refusedStart
   good-ends =
-      first-passed _ _ (first-passed _ _ ok ∙ replies-pass 0 (omega arith)) ∙ ending (passed-ends (refusedAt bytes) (due bytes))
+      first-passed _ _ (first-passed _ _ ok ∙ replies-pass 0 (omega arith))
+      ∙ ending (passed-ends (refusedAt bytes) (due bytes))
 
 early : (bytes : List ℕ) → (heading bytes .refusal ≡ 0 → ⊥) → endsWith bytes ≡ heading bytes .refusal
 unfolding endsWith refusedStart
@@ -175,3 +180,21 @@ ends-is bytes = go (ℕ-discrete (heading bytes .refusal) 0)
         (cond (eqb (length bytes) (tableBegins (heading bytes .n) (due bytes))) 0 8)
     go (yes e) = good-ends bytes e ∙ sym (first-passed _ _ e)
     go (no d) = early bytes d ∙ sym (first-refused _ _ d)
+
+-- so a file is taken exactly where its heading is good and its length exact
+pub taken-exact : (bytes : List ℕ) → endsWith bytes ≡ 0 →
+    (heading bytes .refusal ≡ 0) × (length bytes ≡ tableBegins (heading bytes .n) (due bytes))
+taken-exact bytes taken = (parts .0, go (eqb (length bytes) (tableBegins (heading bytes .n) (due bytes))) refl)
+  where
+    parts : (heading bytes .refusal ≡ 0)
+        × (_≡_ {A = ℕ} (cond (eqb (length bytes) (tableBegins (heading bytes .n) (due bytes))) 0 8) 0)
+    parts = none-refused _ _ (sym (ends-is bytes) ∙ taken)
+
+    go : (b : Bool) → eqb (length bytes) (tableBegins (heading bytes .n) (due bytes)) ≡ b →
+        length bytes ≡ tableBegins (heading bytes .n) (due bytes)
+    go true e = eqb-true _ _ e
+    go false e = let eight : _≡_ {A = ℕ} 8 0 = rw e at (parts .1) in absurd (omega arith)
+
+pub exact-taken : (bytes : List ℕ) → heading bytes .refusal ≡ 0 →
+    length bytes ≡ tableBegins (heading bytes .n) (due bytes) → endsWith bytes ≡ 0
+exact-taken bytes ok exact = ends-is bytes ∙ first-passed _ _ ok ∙ cond-true 0 8 (eq-eqb _ _ exact)

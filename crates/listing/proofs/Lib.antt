@@ -11,5 +11,6 @@ pub mod Calls
 pub mod Prefix
 pub mod Taken
 pub mod Ends
+pub mod Rewrite
 pub mod Room
 pub mod Wrong

@@ -5,3 +5,6 @@ pub mod Laws
 pub mod Written
 pub mod Part
 pub mod Follows
+pub mod Bytes
+pub mod Trip
+pub mod Calls

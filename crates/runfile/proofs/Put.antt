@@ -1,13 +1,12 @@
 -- Bytes written into a slice: how long the bytes of numbers and rows are, eight stores write the bytes of one row, and
 -- a text that follows another makes one longer text. Assumes nothing.
 use mathlib.Core.Path.{_≡_, refl, sym, ap, ap₂, _∙_}
-use mathlib.Core.List.{List, [], _∷_, _++_, append-assoc}
+use mathlib.Core.List.{List, [], _∷_, _++_, append-assoc, append-nil}
 use Prim.Native.Nat.{ℕ, zero, suc, _+_, _*_, _/_, _%_, _≤_}
-use native.Mathlib.Nat.{add-zero}
 use native.Mathlib.Numerals.{add-one}
 use native.Mathlib.Omega.{arith}
-use lib.ListN.{length, getD, take, drop, set, length-append, length-drop, take-append-drop}
-use lib.Seq.{length-take-le, take-at, drop-at, drop-drop, sets-eq}
+use lib.ListN.{length, getD, take, drop, set, length-append, take-append-drop}
+use lib.Seq.{length-take-le, take-at, drop-append-add, drop-drop, sets-eq}
 use Rattle.runfile.specs.File.{inBytes, rowsInBytes}
 use Rattle.runfile.specs.Inside.{firstNine}
 use Rattle.runfile.specs.Write.{putFrom, headingFile, atFront}
@@ -49,6 +48,10 @@ eight-bytes row =
     let d7 : row / 281474976710656 / 256 ≡ row / 72057594037927936 = omega arith in
     rw (d2, d3, d4, d5, d6, d7) refl
 
+-- how far a text reaches that is written from a place on
+front-long : (at : ℕ) (s xs : List ℕ) → at ≤ length xs → length (take at xs ++ s) ≡ at + length s
+front-long at s xs l = length-append (take at xs) s ∙ omega (arith, length-take-le at xs l)
+
 -- eight stores, one behind the other
 pub put-eight : (at : ℕ) (xs : List ℕ) (a b c d e f g h : ℕ) → at + 8 ≤ length xs →
     set
@@ -59,7 +62,7 @@ pub put-eight : (at : ℕ) (xs : List ℕ) (a b c d e f g h : ℕ) → at + 8 �
     (at + 7)
     h
     ≡ putFrom at (a ∷ b ∷ c ∷ d ∷ e ∷ f ∷ g ∷ h ∷ []) xs
-unfolding putFrom
+unfolding putFrom atFront
 put-eight at xs a b c d e f g h l =
     let p1 : at + 1 ≡ suc at = omega arith in
     let p2 : at + 2 ≡ suc (suc at) = omega arith in
@@ -69,71 +72,49 @@ put-eight at xs a b c d e f g h l =
     let p6 : at + 6 ≡ suc (suc (suc (suc (suc (suc at))))) = omega arith in
     let p7 : at + 7 ≡ suc (suc (suc (suc (suc (suc (suc at)))))) = omega arith in
     let text = a ∷ b ∷ c ∷ d ∷ e ∷ f ∷ g ∷ h ∷ [] in
+    let long = front-long at text xs (omega arith) in
     rw (p1, p2, p3, p4, p5, p6, p7) (sets-eq text xs at l)
-    ∙ append-assoc (take at xs) text (drop (at + 8) xs)
+    ∙ ap (λ (m : ℕ). take at xs ++ text ++ drop m xs) (sym long)
 
 -- nothing written
-pub put-none : (at : ℕ) (xs : List ℕ) → xs ≡ putFrom at [] xs
-unfolding putFrom
-put-none at xs = sym (take-append-drop at xs) ∙ ap (λ (m : ℕ). take at xs ++ drop m xs) (sym (add-zero at))
+pub put-none : (at : ℕ) (xs : List ℕ) → at ≤ length xs → xs ≡ putFrom at [] xs
+unfolding putFrom atFront
+put-none at xs l =
+    sym (rw (append-nil (take at xs), length-take-le at xs l) (take-append-drop at xs))
 
-pub put-length : (at : ℕ) (s xs : List ℕ) → at + length s ≤ length xs → length (putFrom at s xs) ≡ length xs
-unfolding putFrom
-put-length at s xs l =
-    length-append (take at xs) (s ++ drop (at + length s) xs)
-    ∙ omega (
-      arith,
-      length-take-le at xs (omega arith),
-      length-append s (drop (at + length s) xs),
-      length-drop (at + length s) xs,
-    )
+-- a longer text over the one that stands at the front
+over : (s t xs : List ℕ) → atFront (s ++ t) (atFront s xs) ≡ atFront (s ++ t) xs
+unfolding atFront
+over s t xs =
+    ap (λ (ys : List ℕ). s ++ t ++ ys)
+    (rw (length-append s t) (drop-append-add s (drop (length s) xs) (length t) ∙ drop-drop (length t) (length s) xs))
 
--- one text, and another behind it
-put-append : (at : ℕ) (s t xs : List ℕ) → at + length (s ++ t) ≤ length xs →
-    putFrom (at + length s) t (putFrom at s xs) ≡ putFrom at (s ++ t) xs
-unfolding putFrom
-put-append at s t xs l =
-    let p = take at xs in
-    let q = drop (at + length s) xs in
-    let r = drop (at + length (s ++ t)) xs in
-    let longer : length (s ++ t) ≡ length s + length t = length-append s t in
-    let whole : p ++ (s ++ q) ≡ p ++ s ++ q = sym (append-assoc p s q) in
-    let short : at ≤ length xs = omega arith in
-    let long : length (p ++ s) ≡ at + length s = length-append p s ∙ omega (arith, length-take-le at xs short) in
-    let front : take (at + length s) (p ++ (s ++ q)) ≡ p ++ s =
-    ap (take (at + length s)) whole ∙ take-at (p ++ s) q (at + length s) long in
-    let sum : at + length s + length t ≡ at + length (s ++ t) = omega arith in
-    let back : drop (at + length s + length t) (p ++ (s ++ q)) ≡ r =
-    sym (drop-drop (length t) (at + length s) (p ++ (s ++ q)))
-    ∙ ap (drop (length t)) (ap (drop (at + length s)) whole ∙ drop-at (p ++ s) q (at + length s) long)
-    ∙ drop-drop (length t) (at + length s) xs
-    ∙ ap (λ (m : ℕ). drop m xs) sum in
-    ap₂ (λ (f b : List ℕ). f ++ (t ++ b)) front back
-    ∙ append-assoc p s (t ++ r)
-    ∙ ap (λ (ys : List ℕ). p ++ ys) (sym (append-assoc s t r))
-
--- the turn of a loop that writes: behind the text so far comes another
-pub put-then : (at : ℕ) (s t xs ys : List ℕ) (k : ℕ) → ys ≡ putFrom at s xs → k ≡ at + length s →
-    at + length (s ++ t) ≤ length xs → putFrom k t ys ≡ putFrom at (s ++ t) xs
-put-then at s t xs ys k e h l = ap₂ (λ (zs : List ℕ) (m : ℕ). putFrom m t zs) e h ∙ put-append at s t xs l
+-- a text behind the one that stands at the front
+pub put-behind : (s t xs ys : List ℕ) (at : ℕ) → length s ≡ at → ys ≡ atFront s xs →
+    putFrom at t ys ≡ atFront (s ++ t) xs
+unfolding putFrom atFront
+put-behind s t xs ys at e h =
+    let front : take at ys ≡ s = ap (take at) h ∙ take-at s (drop (length s) xs) at e in
+    ap₂ (λ (zs ws : List ℕ). atFront (zs ++ t) ws) front h ∙ over s t xs
 
 -- what is written from place 0 on stands at the front
 pub put-front : (s xs : List ℕ) → putFrom 0 s xs ≡ atFront s xs
-unfolding putFrom atFront
-put-front s xs = let none : 0 + length s ≡ length s = omega arith in ap (λ (m : ℕ). s ++ drop m xs) none
+unfolding putFrom
+put-front s xs = refl
 
 -- the turn of the loop over the rows
 pub put-turn : (at : ℕ) (rows xs ys : List ℕ) (k : ℕ) → at + 8 * (k + 1) ≤ length xs →
     ys ≡ putFrom at (rowsInBytes rows k) xs →
     putFrom (at + 8 * k) (inBytes 8 (getD rows k 0)) ys ≡ putFrom at (rowsInBytes rows (k + 1)) xs
-unfolding rowsInBytes
+unfolding rowsInBytes putFrom
 put-turn at rows xs ys k l e =
     let s = rowsInBytes rows k in
     let t = inBytes 8 (getD rows k 0) in
-    let size = length-rows-in-bytes rows k in
-    let both : length (s ++ t) ≡ length s + 8 =
-    length-append s t ∙ ap (λ (m : ℕ). length s + m) (length-in-bytes 8 (getD rows k 0)) in
-    rw add-one (put-then at s t xs ys (at + 8 * k) e (omega (arith, size)) (omega (arith, size, both)))
+    let first = take at xs in
+    let long : length (first ++ s) ≡ at + 8 * k =
+    front-long at s xs (omega arith) ∙ ap (λ (m : ℕ). at + m) (length-rows-in-bytes rows k) in
+    let both = append-assoc first s t in
+    rw add-one (put-behind (first ++ s) t xs ys (at + 8 * k) long e ∙ ap (λ (zs : List ℕ). atFront zs xs) both)
 
 -- a heading's bytes are the first nine and the rows
 pub nine-then-rows : (n t faulty : ℕ) (rows : List ℕ) →
@@ -144,10 +125,3 @@ nine-then-rows n t faulty rows = refl
 pub length-nine : (n t faulty : ℕ) → length (firstNine n t faulty) ≡ 9
 unfolding firstNine inBytes
 length-nine n t faulty = refl
-
--- a text behind the one at the front
-pub put-behind : (s t xs ys : List ℕ) (at : ℕ) → length s ≡ at → at + length t ≤ length xs → ys ≡ atFront s xs →
-    putFrom at t ys ≡ atFront (s ++ t) xs
-put-behind s t xs ys at e l h =
-    put-then 0 s t xs ys at (h ∙ sym (put-front s xs)) (omega arith) (omega (arith, length-append s t))
-    ∙ put-front (s ++ t) xs

@@ -1,10 +1,10 @@
 -- The run file, as docs/RUNFILE.md lays it out: where each number stands in the bytes. All numbers are most
 -- significant byte first.
-use Prim.Native.Nat.{ℕ, zero, suc, _+_, _*_, _/_, _%_}
+use Prim.Native.Nat.{ℕ, zero, suc, _+_, _*_, _/_, _%_, _<_}
 use mathlib.Core.Bool.{Bool, cond, _&&_}
 use mathlib.Core.List.{List, [], _∷_, _++_}
 use lib.Dec.{eqb}
-use lib.ListN.{getD}
+use lib.ListN.{length, getD}
 use Rattle.sizes.specs.Sizes.{largestT}
 
 -- the number in so many bytes from a place on
@@ -72,3 +72,15 @@ headingRow = rowFrom 9
 -- row k of a table
 unfoldable pub tableRow : List ℕ → ℕ → ℕ
 tableRow = rowFrom 0
+
+-- each number of a list is below a bound
+abbrev pub Below : ℕ → List ℕ → Type 0
+Below bound xs = (k : ℕ) → k < length xs → getD xs k 0 < bound
+
+-- numbers of 8 bits
+abbrev pub AllBytes : List ℕ → Type 0
+AllBytes = Below 256
+
+-- numbers of 64 bits
+abbrev pub AllRows : List ℕ → Type 0
+AllRows = Below 18446744073709551616

@@ -27,7 +27,7 @@ atFront text slice = text ++ drop (length text) slice
 
 -- a slice with a text written from a place on, the rest of which stays
 unfoldable pub putFrom : ℕ → List ℕ → List ℕ → List ℕ
-putFrom at text slice = take at slice ++ (text ++ drop (at + length text) slice)
+putFrom at text slice = atFront (take at slice ++ text) slice
 
 -- the heading writer's refusals: 4, 5, 6, 11, 9, 10; `room` is the length of the lent slice
 unfoldable pub writeHeadingTests : ℕ → ℕ → ℕ → List ℕ → ℕ → List Refusal

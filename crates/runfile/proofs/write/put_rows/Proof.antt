@@ -20,7 +20,7 @@ abbrev μ-loop : tie.MeasureT-loop
 
 loop-holds : tie.Need-loop-holds Inv-loop μ-loop
 unfolding rowsInBytes
-loop-holds c = (search needs, refl, put-none _ _)
+loop-holds c = (search needs, refl, put-none _ _ (omega (arith, c .before .before .pre)))
 
 -- a turn
 abbrev start-of : tie.In-loop Inv-loop μ-loop → tie.Start Inv-loop μ-loop

@@ -8,7 +8,7 @@ use lib.ListN.{length}
 use Rattle.runfile.specs.File.{headingBytes, rowsInBytes}
 use Rattle.runfile.specs.Inside.{firstNine}
 use Rattle.runfile.specs.Write.{atFront, writeHeadingRefusal, writeHeadingReply, writeHeadingWrites}
-use Rattle.runfile.proofs.Put.{length-rows-in-bytes, length-nine, nine-then-rows, put-behind}
+use Rattle.runfile.proofs.Put.{length-nine, nine-then-rows, put-behind}
 use Rattle.runfile.proofs.Written.{
   HeadingWritten,
   write-heading-accepted,
@@ -86,12 +86,10 @@ returns-2 c =
     let out = a .out .now in
     let count : length rows ≡ a .n = fits l .starts .pass11 in
     let size : 9 + 8 * length rows ≡ 9 + 8 * a .n = omega arith in
-    let first = firstNine (a .n) (a .t) (a .faulty) in
-    let enough : 9 + length (rowsInBytes rows (length rows)) ≤ length out =
-    omega (arith, room l, length-rows-in-bytes rows (length rows)) in (
+    let first = firstNine (a .n) (a .t) (a .faulty) in (
       ap (λ (k : ℕ). record { refusal = 0; size = k }) size ∙ sym (wrote-given _ _ [] [] (none l)),
       c .before .before .put-rows .ensures
-          ∙ put-behind first _ out _ 9 (length-nine (a .n) (a .t) (a .faulty)) enough (nine .put-nine .ensures)
+          ∙ put-behind first _ out _ 9 (length-nine (a .n) (a .t) (a .faulty)) (nine .put-nine .ensures)
           ∙ ap (λ (k : ℕ). atFront (first ++ rowsInBytes rows k) out) count
           ∙ ap (λ (text : List ℕ). atFront text out) (nine-then-rows (a .n) (a .t) (a .faulty) rows)
           ∙ sym (wrote-written _ 0 _ _ (none l)),

@@ -1,5 +1,5 @@
--- `runfile::write::write_table_refusal` meets its contract: it makes the tests of refusals 4, 11 and 10 in their order.
--- Assumes nothing.
+-- `runfile::write::write_table_refusal` meets its contract: it makes the tests of refusals 4, 11 and 10 in their
+-- order. Assumes nothing.
 use mathlib.Core.Path.{_≡_, sym, ap, _∙_}
 use mathlib.Core.Bool.{false}
 use mathlib.Core.List.{List, []}
