@@ -42,7 +42,7 @@ use Rattle.says.specs.Say.{
   sayNumbers,
 }
 use Rattle.says.specs.Inside.{Among, Meant}
-use Rattle.says.proofs.Laws.{among-within, fits-first, fits-later, all-meant, meant-of}
+use Rattle.says.proofs.Laws.{among-within, fits-first, fits-later, all-meant, meant-five, meant-six, meant-of}
 use Rattle.says.proofs.Digits.{
   four,
   four-make,
@@ -277,3 +277,18 @@ module _ (n t : ℕ) (numbers : List ℕ) (m : Meant n t numbers) where
       one-more leading (ap (λ (x : ℕ). x % n) digits ∙ fourth-digit k hs hr hl) in
       cond-false _ _ (le-ltb (placeSaid n numbers) (n * n) behind)
       ∙ cc (iteration-again, first, second, third, fourth, listed6 numbers six)
+
+pub place-of-line : (n t : ℕ) (numbers : List ℕ) → isMeant n t numbers ≡ true →
+    sayNumbers n (iterationIn numbers - 1) (placeSaid n numbers) (rowIn numbers) ≡ numbers
+place-of-line n t numbers meant =
+    let m = meant-of n t numbers meant in
+    ⊎-elim
+    (λ yes.
+    let one = eqb-true (stepIn numbers) 1 yes in
+    first-again n t numbers m one (meant-five n t numbers meant one))
+    (λ no.
+    let d = eqb-false (stepIn numbers) 1 no in
+    let above : 2 ≤ stepIn numbers = omega (arith, d, m .step .low) in
+    later-again n t numbers m (stepIn numbers - 2) (omega (arith, m .step .high)) (omega arith)
+    (meant-six n t numbers meant d))
+    (either (eqb (stepIn numbers) 1))
