@@ -109,10 +109,10 @@ fn say_at(n: u8, t: u8, numbers: &[u64]) -> usize
 pub fn place_of(n: u8, t: u8, numbers: &[u64]) -> Place
     ensures { λ r. ⌜ r ≡ placeReply n t (now (numbers .entry)) ⌝ }
 {
-    let refusal = sizes::size_refusal(n as usize, t);
-    if refusal != 0 {
+    let size = sizes::size_refusal(n as usize, t);
+    if size != 0 {
         return Place {
-            refusal,
+            refusal: size,
             meant: false,
             at: 0,
         };
