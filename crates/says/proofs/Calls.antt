@@ -47,7 +47,8 @@ pub data TellCall : ℕ → ℕ → ℕ → List ℕ → Written → List ℕ �
 
 pub tell-call-is : {refusal line fault : ℕ} {slice last : List ℕ} {r : Written} →
     TellCall refusal line fault slice r last →
-    (r ≡ textReply (toldText refusal line fault) (length slice)) × (last ≡ textWrites (toldText refusal line fault) slice)
+    (r ≡ textReply (toldText refusal line fault) (length slice))
+    × (last ≡ textWrites (toldText refusal line fault) slice)
 tell-call-is (TellCall.call κs a r x p) = p
 
 -- the numbers of the line of a place are understood, and their place is that place

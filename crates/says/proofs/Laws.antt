@@ -1,7 +1,7 @@
 -- What the tests of a line `say` say: a number within a limit, the numbers that fit a step, and the line that is
 -- understood, both ways. Assumes nothing.
 use mathlib.Core.Path.{_≡_, refl, sym, _∙_}
-use mathlib.Core.Bool.{Bool, true, false, cond, _&&_}
+use mathlib.Core.Bool.{Bool, true, false, _&&_}
 use mathlib.Core.List.{List}
 use mathlib.Core.Logic.{⊎-elim}
 use Prim.Native.Nat.{ℕ, _+_, _≤_, _<_}
@@ -9,27 +9,8 @@ use native.Mathlib.Omega.{arith}
 use lib.Dec.{eqb, leb}
 use lib.ListN.{length}
 use borrow.Author.Tests.{le-leb, lt-leb, leb-true, eqb-true, eqb-false, eq-eqb, ne-eqb}
-use Rattle.counting.proofs.Bools.{
-  either,
-  both,
-  not-both,
-  and-left,
-  and-right,
-  and-false-right,
-  cond-true,
-  cond-false,
-  never,
-}
-use Rattle.says.specs.Say.{
-  within,
-  iterationIn,
-  stepIn,
-  senderIn,
-  receiverIn,
-  leaderIn,
-  fitsStep,
-  isMeant,
-}
+use Rattle.counting.proofs.Bools.{either, both, not-both, and-left, and-right, and-false-right, cond-true, cond-false}
+use Rattle.says.specs.Say.{within, iterationIn, stepIn, senderIn, receiverIn, leaderIn, fitsStep, isMeant}
 use Rattle.says.specs.Inside.{Among, Meant}
 
 -- a number within 1 to a limit, both ways

@@ -2,7 +2,7 @@
 -- Assumes nothing.
 use mathlib.Core.Path.{_≡_, ap, _∙_}
 use mathlib.Core.Bool.{Bool, true, false, cond}
-use mathlib.Core.List.{List, [], _∷_, _++_}
+use mathlib.Core.List.{List}
 use mathlib.Core.Logic.{⊎-elim}
 use Prim.Native.Nat.{ℕ, zero, suc, _+_, _-_, _^_, _≤_, _<_}
 use native.Mathlib.Omega.{arith}
@@ -16,32 +16,11 @@ use Rattle.lines.specs.Line.{decimal, lineOf}
 use Rattle.lines.proofs.Decimal.{decimal-most, decimal-20}
 use Rattle.lines.proofs.Lines.{line-size}
 use Rattle.listing.proofs.Text.{refused-most}
-use Rattle.says.specs.Say.{
-  say-word,
-  iterationIn,
-  stepIn,
-  senderIn,
-  receiverIn,
-  leaderIn,
-  rowIn,
-  isMeant,
-  sayNumbers,
-  sayLine,
-}
-use Rattle.says.specs.Told.{
-  too-long,
-  no-numbers,
-  run-due,
-  rows-due,
-  say-due,
-  not-understood,
-  sentence,
-  faultLine,
-  toldText,
-}
+use Rattle.says.specs.Say.{say-word, iterationIn, stepIn, rowIn, isMeant, sayNumbers, sayLine}
+use Rattle.says.specs.Told.{too-long, no-numbers, run-due, rows-due, say-due, not-understood, sentence, faultLine, toldText}
 use Rattle.says.specs.Inside.{Among}
 use Rattle.says.proofs.Laws.{meant-five, meant-six, meant-of}
-use Rattle.says.proofs.Places.{Names, line-of-place}
+use Rattle.says.proofs.Places.{line-of-place}
 use Rattle.says.proofs.Faults.{front, front-short}
 
 -- a line that is understood, where the largest t is 4
