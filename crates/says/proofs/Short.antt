@@ -17,7 +17,17 @@ use Rattle.lines.proofs.Decimal.{decimal-most, decimal-20}
 use Rattle.lines.proofs.Lines.{line-size}
 use Rattle.listing.proofs.Text.{refused-most}
 use Rattle.says.specs.Say.{say-word, iterationIn, stepIn, rowIn, isMeant, sayNumbers, sayLine}
-use Rattle.says.specs.Told.{too-long, no-numbers, run-due, rows-due, say-due, not-understood, sentence, faultLine, toldText}
+use Rattle.says.specs.Told.{
+  too-long,
+  no-numbers,
+  run-due,
+  rows-due,
+  say-due,
+  not-understood,
+  sentence,
+  faultLine,
+  toldText,
+}
 use Rattle.says.specs.Inside.{Among}
 use Rattle.says.proofs.Laws.{meant-five, meant-six, meant-of}
 use Rattle.says.proofs.Places.{line-of-place}

@@ -8,7 +8,16 @@ use native.Mathlib.Omega.{arith}
 use lib.ListN.{length, take, length-append, length-drop}
 use Rattle.lines.proofs.Placed.{rest-whole}
 use Rattle.says.specs.Told.{faultLine}
-use Rattle.says.proofs.Faults.{front, front-short, front-size, front-text, text-refused, text-given, text-leaves, parts-written}
+use Rattle.says.proofs.Faults.{
+  front,
+  front-short,
+  front-size,
+  front-text,
+  text-refused,
+  text-given,
+  text-leaves,
+  parts-written,
+}
 use borrow.Author.Needs.{needs}
 use Rattle.says.proofs.write_fault.Statement.{statement}
 use Rattle.says.proofs.write_fault.Tie as tie
