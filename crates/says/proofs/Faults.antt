@@ -1,6 +1,6 @@
 -- A text written to the front of a slice, and the two parts of the line of a fault: `line` with its number, which is
 -- put together apart and has at most 25 bytes, and the sentence behind it. Assumes nothing.
-use mathlib.Core.Path.{_≡_, refl, sym, ap, ap₂, _∙_}
+use mathlib.Core.Path.{_≡_, refl, sym, ap, _∙_}
 use mathlib.Core.List.{List, [], _∷_, _++_, append-assoc}
 use Prim.Native.Nat.{ℕ, _+_, _-_, _^_, _≤_, _<_}
 use native.Mathlib.Omega.{arith}
@@ -9,11 +9,11 @@ use lib.Seq.{take-at}
 use borrow.Author.Tests.{lt-ltb, le-ltb}
 use Rattle.counting.proofs.Bools.{cond-true, cond-false}
 use Rattle.lines.specs.declared.Written.{Written}
-use Rattle.lines.specs.Line.{decimal, field, fields, lineOf, placed, tooShort, lineReply, lineWrites}
+use Rattle.lines.specs.Line.{field, fields, lineOf, placed, tooShort, lineReply, lineWrites}
 use Rattle.lines.proofs.Decimal.{decimal-20}
 use Rattle.lines.proofs.Lines.{line-given, line-written}
 use Rattle.lines.proofs.Placed.{placed-front, placed-then, placed-copied}
-use Rattle.says.specs.Told.{line-word, faultLine, textReply, textWrites}
+use Rattle.says.specs.Told.{line-word, textReply, textWrites}
 
 -- a text that does not fit, and one that does
 module _ (text : List ℕ) where
@@ -49,10 +49,6 @@ line-kept word numbers slice = refl
 -- `line` and the number: the line of a fault without its sentence
 abbrev pub front : ℕ → List ℕ
 front line = line-word ++ field line
-
-pub fault-front : (line : ℕ) (said : List ℕ) → faultLine line said ≡ front line ++ said
-unfolding faultLine
-fault-front line said = refl
 
 pub front-short : (line : ℕ) → line < 2 ^ 64 → length (front line) ≤ 25
 unfolding field

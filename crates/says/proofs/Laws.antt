@@ -1,7 +1,7 @@
 -- What the tests of a line `say` say: a number within a limit, the numbers that fit a step, and the line that is
 -- understood, both ways. Assumes nothing.
 use mathlib.Core.Path.{_≡_, refl, sym, _∙_}
-use mathlib.Core.Bool.{Bool, true, false, cond, _&&_}
+use mathlib.Core.Bool.{Bool, true, false, _&&_}
 use mathlib.Core.List.{List}
 use mathlib.Core.Logic.{⊎-elim}
 use Prim.Native.Nat.{ℕ, _+_, _≤_, _<_}
@@ -9,27 +9,8 @@ use native.Mathlib.Omega.{arith}
 use lib.Dec.{eqb, leb}
 use lib.ListN.{length}
 use borrow.Author.Tests.{le-leb, lt-leb, leb-true, eqb-true, eqb-false, eq-eqb, ne-eqb}
-use Rattle.counting.proofs.Bools.{
-  either,
-  both,
-  not-both,
-  and-left,
-  and-right,
-  and-false-right,
-  cond-true,
-  cond-false,
-  never,
-}
-use Rattle.says.specs.Say.{
-  within,
-  iterationIn,
-  stepIn,
-  senderIn,
-  receiverIn,
-  leaderIn,
-  fitsStep,
-  isMeant,
-}
+use Rattle.counting.proofs.Bools.{either, both, not-both, and-left, and-right, and-false-right, cond-true, cond-false}
+use Rattle.says.specs.Say.{within, iterationIn, stepIn, senderIn, receiverIn, leaderIn, fitsStep, isMeant}
 use Rattle.says.specs.Inside.{Among, Meant}
 
 -- a number within 1 to a limit, both ways
@@ -88,44 +69,60 @@ module _ (n t : ℕ) (numbers : List ℕ) where
       both fits
       (both (among-within _ _ iteration) (both (among-within _ _ sender) (among-within _ _ receiver)))
 
-  pub meant-of : isMeant n t numbers ≡ true → Meant n t numbers
-  unfolding isMeant
-  meant-of e =
-      let sender = within n (senderIn numbers) in
-      let receiver = within n (receiverIn numbers) in
-      let iteration = within (t + 1) (iterationIn numbers) in
-      let fits = and-left (fitsStep n numbers) (iteration && (sender && receiver)) e in
-      let ranges = and-right (fitsStep n numbers) (iteration && (sender && receiver)) e in
-      let boxes = and-right iteration (sender && receiver) ranges in
-      let parts = fits-parts fits in
-      record {
-        five = parts .0;
-        iteration = within-among _ _ (and-left iteration (sender && receiver) ranges);
-        step = parts .1;
-        sender = within-among _ _ (and-left sender receiver boxes);
-        receiver = within-among _ _ (and-right sender receiver boxes);
-        leader = parts .2;
-      }
-    where
-      fits-parts : fitsStep n numbers ≡ true →
-          (5 ≤ length numbers)
-          × Among 3 (stepIn numbers)
-          × ((stepIn numbers ≡ 1 → ⊥) → Among n (leaderIn numbers))
-      fits-parts fits =
-          ⊎-elim
-          (λ yes.
-          let one = eqb-true (stepIn numbers) 1 yes in
-          let five = eqb-true (length numbers) 5 (sym (fits-first n numbers one) ∙ fits) in
-          (omega (arith, five), record { low = omega (arith, one); high = omega (arith, one) }, λ d. absurd (d one)))
-          (λ no.
-          let step = within 3 (stepIn numbers) in
-          let long = eqb (length numbers) 6 in
-          let leader = within n (leaderIn numbers) in
-          let later = sym (fits-later n numbers (eqb-false (stepIn numbers) 1 no)) ∙ fits in
-          let rest = and-right step (long && leader) later in
-          let six = eqb-true (length numbers) 6 (and-left long leader rest) in (
-            omega (arith, six),
-            within-among _ _ (and-left step (long && leader) later),
-            λ d. within-among _ _ (and-right long leader rest),
-          ))
-          (either (eqb (stepIn numbers) 1))
+  module _ (e : isMeant n t numbers ≡ true) where
+    abbrev ranges : Bool
+    ranges = within (t + 1) (iterationIn numbers) && (within n (senderIn numbers) && within n (receiverIn numbers))
+
+    fitting : fitsStep n numbers ≡ true
+    unfolding isMeant
+    fitting = and-left (fitsStep n numbers) ranges e
+
+    -- as many numbers as the step asks
+    pub meant-five : stepIn numbers ≡ 1 → length numbers ≡ 5
+    meant-five one = eqb-true (length numbers) 5 (sym (fits-first n numbers one) ∙ fitting)
+
+    meant-later : (stepIn numbers ≡ 1 → ⊥) → six n numbers ≡ true
+    meant-later d = sym (fits-later n numbers d) ∙ fitting
+
+    abbrev leading : Bool
+    leading = eqb (length numbers) 6 && within n (leaderIn numbers)
+
+    pub meant-six : (stepIn numbers ≡ 1 → ⊥) → length numbers ≡ 6
+    meant-six d =
+        eqb-true (length numbers) 6
+        (and-left (eqb (length numbers) 6) (within n (leaderIn numbers))
+        (and-right (within 3 (stepIn numbers)) leading (meant-later d)))
+
+    pub meant-of : Meant n t numbers
+    unfolding isMeant
+    meant-of =
+        let sender = within n (senderIn numbers) in
+        let receiver = within n (receiverIn numbers) in
+        let iteration = within (t + 1) (iterationIn numbers) in
+        let all = and-right (fitsStep n numbers) ranges e in
+        let boxes = and-right iteration (sender && receiver) all in
+        let first = either (eqb (stepIn numbers) 1) in
+        record {
+          five =
+              ⊎-elim
+              (λ yes. omega (arith, meant-five (eqb-true (stepIn numbers) 1 yes)))
+              (λ no. omega (arith, meant-six (eqb-false (stepIn numbers) 1 no)))
+              first;
+          iteration = within-among _ _ (and-left iteration (sender && receiver) all);
+          step =
+              ⊎-elim
+              (λ yes.
+              let one = eqb-true (stepIn numbers) 1 yes in
+              record { low = omega (arith, one); high = omega (arith, one) })
+              (λ no.
+              within-among _ _
+              (and-left (within 3 (stepIn numbers)) leading (meant-later (eqb-false (stepIn numbers) 1 no))))
+              first;
+          sender = within-among _ _ (and-left sender receiver boxes);
+          receiver = within-among _ _ (and-right sender receiver boxes);
+          leader =
+              λ d.
+              within-among _ _
+              (and-right (eqb (length numbers) 6) (within n (leaderIn numbers))
+              (and-right (within 3 (stepIn numbers)) leading (meant-later d)));
+        }

@@ -3,3 +3,5 @@ pub mod Laws
 pub mod Digits
 pub mod Places
 pub mod Faults
+pub mod Short
+pub mod Calls

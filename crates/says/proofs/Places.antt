@@ -42,7 +42,7 @@ use Rattle.says.specs.Say.{
   sayNumbers,
 }
 use Rattle.says.specs.Inside.{Among, Meant}
-use Rattle.says.proofs.Laws.{among-within, fits-first, fits-later, all-meant, meant-of}
+use Rattle.says.proofs.Laws.{among-within, fits-first, fits-later, all-meant, meant-five, meant-six, meant-of}
 use Rattle.says.proofs.Digits.{
   four,
   four-make,
@@ -163,3 +163,132 @@ module _ (n t table place row : ℕ) (low : 1 ≤ n) (few : table ≤ t) where
         at-is = at-place n table place five-numbers refl said;
         row-is = refl;
       }
+
+  later-names : (q : ℕ) → q < 2 * (n * n * n) → place ≡ n * n + q →
+      Names n t table place row (laterNumbers n table q row)
+  unfolding laterNumbers
+  later-names q h e =
+      let numbers = laterNumbers n table q row in
+      let cube : 0 < n * n * n = mul-pos (mul-pos low low) low in
+      let step : q / (n * n * n) < 2 = div-lt-iff-lt-mul cube .1 h in
+      let sender : q / (n * n) % n < n = mod-lt (q / (n * n)) low in
+      let receiver : q / n % n < n = mod-lt (q / n) low in
+      let leader : q % n < n = mod-lt q low in
+      let digits : triple n numbers ≡ (q / (n * n) % n * n + q / n % n) * n + q % n =
+      ap₂ (λ (a b : ℕ). a * n + b)
+      (ap₂ (λ (a b : ℕ). a * n + b) (less-one (q / (n * n) % n)) (less-one (q / n % n)))
+      (less-one (q % n)) in
+      let whole =
+      four-make n q ∙ four-sum n (q / (n * n * n)) (q / (n * n) % n) (q / n % n) (q % n) in
+      let said : placeSaid n numbers ≡ place =
+      said-later n numbers (q / (n * n * n)) step refl ∙ omega (arith, e, digits, whole) in
+      record {
+        meant =
+            all-meant n t numbers
+            (fits-later n numbers (λ x. omega (arith, x))
+            ∙ both (among-within 3 _ (record { low = omega arith; high = omega arith }))
+            (both (eq-eqb 6 6 refl) (among-within n _ (record { low = omega arith; high = omega arith }))))
+            (record { low = omega arith; high = omega arith })
+            (record { low = omega arith; high = omega arith })
+            (record { low = omega arith; high = omega arith });
+        place-is = said;
+        at-is = at-place n table place numbers refl said;
+        row-is = refl;
+      }
+
+-- the line of a place names it
+pub line-of-place : (n t table place row : ℕ) → 1 ≤ n → table ≤ t → place < tableRows n →
+    Names n t table place row (sayNumbers n table place row)
+unfolding sayNumbers tableRows
+line-of-place n t table place row low few inside =
+    ⊎-elim
+    (λ yes. rw yes (first-names n t table place row low few (ltb-true place (n * n) yes)))
+    (λ no.
+    let behind = ltb-false place (n * n) no in
+    rw no (later-names n t table place row low few (place - n * n) (omega arith) (omega arith)))
+    (either (ltb place (n * n)))
+
+-- the numbers of a line, one by one
+listed5 : (numbers : List ℕ) → length numbers ≡ 5 →
+    numbers ≡ iterationIn numbers ∷ stepIn numbers ∷ senderIn numbers ∷ receiverIn numbers ∷ rowIn numbers ∷ []
+unfolding build
+listed5 numbers five =
+    built 5 (λ k. getD numbers k 0) numbers five (λ k l. refl)
+    ∙ ap
+    (λ (row : ℕ). iterationIn numbers ∷ stepIn numbers ∷ senderIn numbers ∷ receiverIn numbers ∷ row ∷ [])
+    (ap (λ (k : ℕ). getD numbers (k - 1) 0) (sym five))
+
+listed6 : (numbers : List ℕ) → length numbers ≡ 6 →
+    numbers ≡ iterationIn numbers ∷ stepIn numbers ∷ senderIn numbers ∷ receiverIn numbers ∷ leaderIn numbers
+    ∷ rowIn numbers ∷ []
+unfolding build
+listed6 numbers six =
+    built 6 (λ k. getD numbers k 0) numbers six (λ k l. refl)
+    ∙ ap
+    (λ (row : ℕ).
+    iterationIn numbers ∷ stepIn numbers ∷ senderIn numbers ∷ receiverIn numbers ∷ leaderIn numbers ∷ row ∷ [])
+    (ap (λ (k : ℕ). getD numbers (k - 1) 0) (sym six))
+
+-- the other way: the line of the place that a line names
+one-more : {limit k x : ℕ} → Among limit k → x ≡ k - 1 → 1 + x ≡ k
+one-more a e = omega (arith, a .low, e)
+
+module _ (n t : ℕ) (numbers : List ℕ) (m : Meant n t numbers) where
+  abbrev again : List ℕ
+  again = sayNumbers n (iterationIn numbers - 1) (placeSaid n numbers) (rowIn numbers)
+
+  iteration-again : iterationIn numbers - 1 + 1 ≡ iterationIn numbers
+  iteration-again = omega (arith, m .iteration .low)
+
+  first-again : stepIn numbers ≡ 1 → length numbers ≡ 5 → again ≡ numbers
+  unfolding sayNumbers
+  first-again one five =
+      let place = said-first n numbers one in
+      let lower : placeSaid n numbers < n * n = omega (arith, place, pair-fits n numbers m) in
+      let high : 1 + placeSaid n numbers / n ≡ senderIn numbers =
+      one-more (m .sender)
+      (ap (λ (x : ℕ). x / n) place ∙ digits-div (senderIn numbers - 1) (box-fits (m .receiver))) in
+      let last : 1 + placeSaid n numbers % n ≡ receiverIn numbers =
+      one-more (m .receiver)
+      (ap (λ (x : ℕ). x % n) place ∙ digits-mod (senderIn numbers - 1) (box-fits (m .receiver))) in
+      cond-true _ _ (lt-ltb (placeSaid n numbers) (n * n) lower)
+      ∙ cc (iteration-again, one, high, last, listed5 numbers five)
+
+  later-again : (k : ℕ) → k < 2 → stepIn numbers ≡ 2 + k → length numbers ≡ 6 → again ≡ numbers
+  unfolding sayNumbers laterNumbers
+  later-again k h step six =
+      let hs = box-fits (m .sender) in
+      let hr = box-fits (m .receiver) in
+      let leading = m .leader (λ e. omega (arith, e, step)) in
+      let hl = box-fits leading in
+      let place = said-later n numbers k h step in
+      let q = placeSaid n numbers - n * n in
+      let sum = four-sum n k (senderIn numbers - 1) (receiverIn numbers - 1) (leaderIn numbers - 1) in
+      let digits : q ≡ four n k (senderIn numbers - 1) (receiverIn numbers - 1) (leaderIn numbers - 1) =
+      omega (arith, place, sum) in
+      let behind : n * n ≤ placeSaid n numbers = omega (arith, place) in
+      let first : 2 + q / (n * n * n) ≡ stepIn numbers =
+      ap (λ (x : ℕ). 2 + x / (n * n * n)) digits ∙ ap (λ (x : ℕ). 2 + x) (first-digit k hs hr hl) ∙ sym step in
+      let second : 1 + q / (n * n) % n ≡ senderIn numbers =
+      one-more (m .sender) (ap (λ (x : ℕ). x / (n * n) % n) digits ∙ second-digit k hs hr hl) in
+      let third : 1 + q / n % n ≡ receiverIn numbers =
+      one-more (m .receiver) (ap (λ (x : ℕ). x / n % n) digits ∙ third-digit k hs hr hl) in
+      let fourth : 1 + q % n ≡ leaderIn numbers =
+      one-more leading (ap (λ (x : ℕ). x % n) digits ∙ fourth-digit k hs hr hl) in
+      cond-false _ _ (le-ltb (placeSaid n numbers) (n * n) behind)
+      ∙ cc (iteration-again, first, second, third, fourth, listed6 numbers six)
+
+pub place-of-line : (n t : ℕ) (numbers : List ℕ) → isMeant n t numbers ≡ true →
+    sayNumbers n (iterationIn numbers - 1) (placeSaid n numbers) (rowIn numbers) ≡ numbers
+place-of-line n t numbers meant =
+    let m = meant-of n t numbers meant in
+    ⊎-elim
+    (λ yes.
+    let one = eqb-true (stepIn numbers) 1 yes in
+    first-again n t numbers m one (meant-five n t numbers meant one))
+    (λ no.
+    let d = eqb-false (stepIn numbers) 1 no in
+    let above : 2 ≤ stepIn numbers = omega (arith, d, m .step .low) in
+    later-again n t numbers m (stepIn numbers - 2) (omega (arith, m .step .high)) (omega arith)
+    (meant-six n t numbers meant d))
+    (either (eqb (stepIn numbers) 1))

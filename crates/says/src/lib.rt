@@ -109,10 +109,10 @@ fn say_at(n: u8, t: u8, numbers: &[u64]) -> usize
 pub fn place_of(n: u8, t: u8, numbers: &[u64]) -> Place
     ensures { λ r. ⌜ r ≡ placeReply n t (now (numbers .entry)) ⌝ }
 {
-    let refusal = sizes::size_refusal(n as usize, t);
-    if refusal != 0 {
+    let size = sizes::size_refusal(n as usize, t);
+    if size != 0 {
         return Place {
-            refusal,
+            refusal: size,
             meant: false,
             at: 0,
         };
@@ -154,20 +154,17 @@ pub fn write_say(n: u8, table: u8, place: u16, row: u64, out: &mut [u8]) -> Writ
     let iteration = table as u64 + 1;
     let p = place as u64;
     if p < square {
-        let numbers = [iteration, 1, 1 + p / boxes, 1 + p % boxes, row];
+        let sender = 1 + p / boxes;
+        let receiver = 1 + p % boxes;
+        let numbers = [iteration, 1, sender, receiver, row];
         return lines::write_line(out, b"say", &numbers);
     }
     let q = p - square;
     let step = 2 + q / (square * boxes);
     let sender = 1 + q / square % boxes;
-    let numbers = [
-        iteration,
-        step,
-        sender,
-        1 + q / boxes % boxes,
-        1 + q % boxes,
-        row,
-    ];
+    let receiver = 1 + q / boxes % boxes;
+    let leader = 1 + q % boxes;
+    let numbers = [iteration, step, sender, receiver, leader, row];
     lines::write_line(out, b"say", &numbers)
 }
 

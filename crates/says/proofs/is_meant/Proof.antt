@@ -4,7 +4,7 @@ use mathlib.Core.Path.{_≡_, refl, sym, _∙_}
 use mathlib.Core.Bool.{true}
 use Prim.Native.Nat.{_+_}
 use borrow.Author.Tests.{not-true, not-false}
-use Rattle.says.specs.Say.{within, iterationIn, senderIn, fitsStep, isMeant}
+use Rattle.says.specs.Say.{within, iterationIn, fitsStep, isMeant}
 use Rattle.says.proofs.Laws.{fits-none}
 use borrow.Author.Needs.{needs}
 use Rattle.says.proofs.is_meant.Statement.{statement}

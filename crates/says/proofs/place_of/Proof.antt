@@ -5,9 +5,8 @@ use mathlib.Core.Bool.{true, false}
 use Prim.Native.Nat.{ℕ}
 use native.Mathlib.Omega.{arith}
 use borrow.Author.Tests.{eq-eqb, ne-eqb, not-true, not-false}
-use Rattle.sizes.specs.Sizes.{Sized, sizeRefusal}
+use Rattle.sizes.specs.Sizes.{sizeRefusal}
 use Rattle.sizes.proofs.Laws.{passes-sized}
-use Rattle.says.specs.declared.Place.{Place}
 use Rattle.says.specs.Say.{isMeant, placeReply}
 use Rattle.says.proofs.Laws.{meant-of}
 use borrow.Author.Needs.{needs}

@@ -1,7 +1,7 @@
 -- `says::say_at` meets its contract: the place lies within the table, so the table begins, and the place lies, among
 -- the 182,633 bytes of the largest file. Assumes nothing.
-use mathlib.Core.Path.{_≡_, ap₂}
-use Prim.Native.Nat.{ℕ, _+_, _-_, _*_, _≤_, _<_}
+use mathlib.Core.Path.{ap₂}
+use Prim.Native.Nat.{ℕ, _+_, _*_, _≤_, _<_}
 use native.Mathlib.Omega.{arith}
 use Rattle.sizes.proofs.Laws.{table-le}
 use Rattle.listing.proofs.Behind.{begins-inside, begins-most}

@@ -1,11 +1,11 @@
 -- `says::write_fault` meets its contract: `line` and the number are put together apart, in 26 bytes, without the
 -- newline; where the slice has room for them and the sentence, they are copied to its front, and the sentence behind
 -- them; a slice that is too short stays as it is. Assumes nothing.
-use mathlib.Core.Path.{_≡_, refl, sym, ap, _∙_}
+use mathlib.Core.Path.{_≡_, refl, ap, _∙_}
 use mathlib.Core.List.{List, _++_}
 use Prim.Native.Nat.{ℕ, _+_, _-_, _≤_, _<_}
 use native.Mathlib.Omega.{arith}
-use lib.ListN.{length, take, drop, length-append, length-drop}
+use lib.ListN.{length, take, length-append, length-drop}
 use Rattle.lines.proofs.Placed.{rest-whole}
 use Rattle.says.specs.Told.{faultLine}
 use Rattle.says.proofs.Faults.{

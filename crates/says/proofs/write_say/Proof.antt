@@ -36,19 +36,19 @@ mul-square c = omega (arith, square-le (high-of c))
 add-iteration : tie.Need-add-iteration
 add-iteration c = search needs
 
-div-t19 : tie.Need-div-t19
-div-t19 c = search needs
+div-sender : tie.Need-div-sender
+div-sender c = search needs
 
-add-t20 : tie.Need-add-t20
-add-t20 c =
+add-sender : tie.Need-add-sender
+add-sender c =
     let a = start-of (c .before) .args in
     omega (arith, div-le-self (a .place) (a .n))
 
-rem-t21 : tie.Need-rem-t21
-rem-t21 c = search needs
+rem-receiver : tie.Need-rem-receiver
+rem-receiver c = search needs
 
-add-t22 : tie.Need-add-t22
-add-t22 c =
+add-receiver : tie.Need-add-receiver
+add-receiver c =
     let a = start-of (c .before) .args in
     omega (arith, mod-le (a .place) (a .n))
 
@@ -82,35 +82,35 @@ add-step c =
     let a = start-of (c .before) .args in
     omega (arith, div-le-self (a .place - a .n * a .n) (a .n * a .n * a .n))
 
-div-sender : tie.Need-div-sender
-div-sender c = mul-pos (low-of (c .before)) (low-of (c .before))
+div-sender-2 : tie.Need-div-sender-2
+div-sender-2 c = mul-pos (low-of (c .before)) (low-of (c .before))
 
 rem-sender : tie.Need-rem-sender
 rem-sender c = search needs
 
-add-sender : tie.Need-add-sender
-add-sender c =
+add-sender-2 : tie.Need-add-sender-2
+add-sender-2 c =
     let a = start-of (c .before) .args in
     let q = a .place - a .n * a .n in
     omega (arith, mod-le (q / (a .n * a .n)) (a .n), div-le-self q (a .n * a .n))
 
-div-t18 : tie.Need-div-t18
-div-t18 c = search needs
+div-receiver : tie.Need-div-receiver
+div-receiver c = search needs
 
-rem-t29 : tie.Need-rem-t29
-rem-t29 c = search needs
+rem-receiver-2 : tie.Need-rem-receiver-2
+rem-receiver-2 c = search needs
 
-add-t30 : tie.Need-add-t30
-add-t30 c =
+add-receiver-2 : tie.Need-add-receiver-2
+add-receiver-2 c =
     let a = start-of (c .before) .args in
     let q = a .place - a .n * a .n in
     omega (arith, mod-le (q / a .n) (a .n), div-le-self q (a .n))
 
-rem-t31 : tie.Need-rem-t31
-rem-t31 c = search needs
+rem-leader : tie.Need-rem-leader
+rem-leader c = search needs
 
-add-t32 : tie.Need-add-t32
-add-t32 c =
+add-leader : tie.Need-add-leader
+add-leader c =
     let a = start-of (c .before) .args in
     omega (arith, mod-le (a .place - a .n * a .n) (a .n))
 
@@ -141,10 +141,10 @@ write-say-spec =
     returns-2
     mul-square
     add-iteration
-    div-t19
-    add-t20
-    rem-t21
-    add-t22
+    div-sender
+    add-sender
+    rem-receiver
+    add-receiver
     slice-aggregate-write-line
     slice-aggregate-write-line-2
     write-line-requires
@@ -153,14 +153,14 @@ write-say-spec =
     mul-step
     div-step
     add-step
-    div-sender
+    div-sender-2
     rem-sender
-    add-sender
-    div-t18
-    rem-t29
-    add-t30
-    rem-t31
-    add-t32
+    add-sender-2
+    div-receiver
+    rem-receiver-2
+    add-receiver-2
+    rem-leader
+    add-leader
     slice-aggregate-write-line-3
     slice-aggregate-write-line-4
     write-line-requires-2
