@@ -8,8 +8,8 @@ use Prim.Native.Nat.{ℕ, zero, suc, _+_, _-_, _*_, _/_, _%_, _^_, _≤_, _<_}
 use native.Mathlib.Nat.{le-refl, mul-pos, mod-lt, div-lt-iff-lt-mul, suc-mul, mul-le-mul-right}
 use native.Mathlib.Decide.{ℕ-discrete}
 use native.Mathlib.Omega.{arith}
-use lib.Dec.{eqb, leb, ltb}
-use lib.ListN.{length, getD, take, drop, length-append, length-drop}
+use lib.Dec.{eqb, ltb}
+use lib.ListN.{length, getD, take, drop, length-drop}
 use borrow.Author.Tests.{lt-ltb, le-ltb, lt-leb, le-leb, ltb-true, ltb-false, eq-eqb, ne-eqb}
 use Rattle.counting.specs.Count.{sum}
 use Rattle.counting.proofs.Bools.{either, cond-true, cond-false}
@@ -17,7 +17,7 @@ use Rattle.counting.proofs.Build.{getD-build, front-take}
 use Rattle.sizes.specs.Sizes.{tableRows}
 use Rattle.sizes.proofs.Laws.{inside}
 use Rattle.lines.specs.declared.Written.{Written}
-use Rattle.lines.specs.Line.{decimal, lineOf, lineReply, lineWrites, placed}
+use Rattle.lines.specs.Line.{lineOf, lineWrites, placed}
 use Rattle.lines.proofs.Decimal.{decimal-most, decimal-20}
 use Rattle.lines.proofs.Lines.{line-size, line-length, fields-most, line-given, line-written}
 use Rattle.lines.proofs.Placed.{rest-whole, rest-none, placed-within}
@@ -38,7 +38,6 @@ use Rattle.listing.proofs.Heading.{
 use Rattle.listing.proofs.Table.{table-good}
 use Rattle.listing.proofs.Ends.{ends-is}
 use Rattle.says.specs.Say.{rows-word, say-word, laterNumbers, sayNumbers, sayLine, sayReply, sayWrites}
-use Rattle.showing.specs.declared.Shown.{Shown}
 use Rattle.showing.specs.Show.{
   placeText,
   placesText,

@@ -15,7 +15,6 @@ ghost use Rattle.says.specs.Say.{rows-word};
 ghost use Rattle.showing.specs.Show.{
   placeText,
   placesText,
-  headingText,
   tableText,
   partText,
   partRoom,

@@ -1,11 +1,8 @@
 -- `showing::put_place` meets its contract: a place that holds 0 has no line, and the line of any other has at most 40
 -- bytes, so it has its place in what lies from there on. Assumes nothing.
-use mathlib.Core.Path.{_≡_}
 use Prim.Native.Nat.{_≤_}
 use native.Mathlib.Omega.{arith}
-use lib.ListN.{length}
 use Rattle.sizes.proofs.Laws.{table-le}
-use Rattle.says.specs.Say.{sayLine}
 use Rattle.listing.proofs.Text.{put-nothing}
 use Rattle.showing.proofs.Laws.{say-most, say-size, say-put, place-none, place-some}
 use borrow.Author.Needs.{needs}

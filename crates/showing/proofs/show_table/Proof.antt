@@ -1,10 +1,10 @@
 -- `showing::show_table` meets its contract: a table of a good file lies within it, so its rows are read, and their
 -- lines are put. Assumes nothing.
-use mathlib.Core.Path.{_≡_, sym, ap, subst, _∙_}
+use mathlib.Core.Path.{_≡_, sym, ap, ap₂, subst, _∙_}
 use mathlib.Core.List.{List}
-use Prim.Native.Nat.{ℕ, _+_, _-_, _*_, _≤_}
+use Prim.Native.Nat.{ℕ, _+_, _-_, _≤_}
 use native.Mathlib.Omega.{arith}
-use lib.ListN.{length, getD, take, drop}
+use lib.ListN.{length, getD, take, drop, replicate, length-replicate}
 use lib.Seq.{length-take-le}
 use Rattle.sizes.specs.Sizes.{tableRows}
 use Rattle.sizes.proofs.Laws.{inside, by-n-inside, table-le}
@@ -12,7 +12,7 @@ use Rattle.runfile.specs.Reply.{tableWrites}
 use Rattle.listing.specs.Inside.{Put}
 use Rattle.listing.specs.File.{tableBytes, tableBegins, beginsReply, tableOf, heading}
 use Rattle.listing.proofs.Behind.{begins-inside}
-use Rattle.showing.specs.Show.{placesText, tableText}
+use Rattle.showing.specs.Show.{placesText}
 use Rattle.showing.proofs.Laws.{
   Headed,
   headed,
@@ -91,10 +91,13 @@ read-of c =
     let b = places-of c in
     let s = start-of b in
     let last = c .before .before .read-table .last .1 .1 .0 in
+    let from = b .before .table-begins .result in
+    let part = take (b .table-begins2 .result - from) (drop from (bytes-of b)) in
+    let zeros : List ℕ = replicate 4563 0 in
     ap (λ (k : ℕ). take k last) (rows-of c)
-    ∙ table-read (bytes-of b) (s .pre .0 .0) (s .args .m) (s .pre .0 .2) (b .before .table-begins .result)
-    (b .table-begins2 .result) _ last (from-of b) (to-of b) ?
-    (c .before .before .read-table .ensures .1 ∙ ?)
+    ∙ table-read (bytes-of b) (s .pre .0 .0) (s .args .m) (s .pre .0 .2) from (b .table-begins2 .result) zeros
+    last (from-of b) (to-of b) (length-replicate {A = ℕ} 4563 0)
+    (c .before .before .read-table .ensures .1 ∙ ap (λ (k : ℕ). tableWrites k part zeros) (n-of b))
 
 table-begins-requires : tie.Need-table-begins-requires
 table-begins-requires c κs = search needs
@@ -132,13 +135,35 @@ slice-aggregate-put-table : tie.Need-slice-aggregate-put-table
 slice-aggregate-put-table c = sym (length-take-le _ _ (rows-fit (c .before)))
 
 put-table-requires : tie.Need-put-table-requires
-put-table-requires c κs = ?
+put-table-requires c κs =
+    let r = c .before .before in
+    let b = places-of r in
+    let s = start-of b in
+    let long = length-take-le (r .table-rows .result) (r .before .before .read-table .last .1 .1 .0) (rows-fit r) in
+    let rows = ap tableRows (n-of b) in (
+      (
+        omega (arith, n-of b, headed-of b .low),
+        omega (arith, n-of b, headed-of b .high),
+        table-m (bytes-of b) (s .pre .0 .0) (s .args .m) (s .pre .0 .2),
+        omega (arith, long, rows-of r, rows),
+      ),
+      omega (arith, long, rows-of r, rows, s .pre .1),
+    )
 
 same-length : tie.Need-same-length
 same-length c = search needs
 
 returns : tie.Need-returns
-returns c = ?
+returns c =
+    let put = c .before .before in
+    let r = put .before .before .before in
+    let b = places-of r in
+    let s = start-of b in
+    let m = s .args .m in
+    subst (Put _ _ _ _)
+    (ap₂ (λ (rows : List ℕ) (n : ℕ). placesText n m (λ k. getD rows k 0) (tableRows n)) (read-of r) (n-of b)
+    ∙ table-lines (bytes-of b) (s .pre .0 .0) m (s .pre .0 .2))
+    (put .put-table .ensures)
 
 pub show-table-spec : {M : Type 1} → statement M
 show-table-spec =
