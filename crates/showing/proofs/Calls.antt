@@ -1,6 +1,5 @@
--- What is shown, said of calls: of every reply of `show`, with the last contents of the slice, that meets the function's
--- contract as the toolchain states it. The parts of a good file, one call for each, are its whole text. Assumes
--- nothing.
+-- What is shown, said of calls: of every reply of `show`, with the last contents of the slice, that meets the contract
+-- as the toolchain states it. The parts of a good file, one call for each, are its whole text. Assumes nothing.
 use mathlib.Core.Path.{_≡_, refl, sym, ap, ap₂, _∙_}
 use mathlib.Core.List.{List, [], _++_}
 use Prim.Native.Nat.{ℕ, zero, suc, _≤_, _<_}

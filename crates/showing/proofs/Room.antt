@@ -5,7 +5,7 @@ use mathlib.Core.Path.{_≡_, refl, sym, ap, _∙_}
 use mathlib.Core.Bool.{Bool, true, false}
 use mathlib.Core.List.{List, [], _∷_}
 use mathlib.Core.Logic.{⊎-elim}
-use Prim.Native.Nat.{ℕ, zero, suc, _+_, _-_, _*_, _^_, _≤_, _<_}
+use Prim.Native.Nat.{ℕ, zero, suc, _-_, _*_, _^_, _≤_, _<_}
 use native.Mathlib.Nat.{le-refl, lt-of-lt-of-le}
 use native.Mathlib.Decide.{ℕ-discrete}
 use native.Mathlib.Omega.{arith}
@@ -187,7 +187,8 @@ show-refused-alike bytes part room some short =
     (bad-refused bytes part room bad, λ other space. bad-refused bytes other space bad)
 
 -- a list of tests gives 10 only by a test that has that number
-behind : (number : ℕ) (test : Bool) (rest : List Refusal) → (number ≡ 10 → ⊥) → firstOf (refuse number test ∷ rest) ≡ 10 →
+behind : (number : ℕ) (test : Bool) (rest : List Refusal) → (number ≡ 10 → ⊥) →
+    firstOf (refuse number test ∷ rest) ≡ 10 →
     (test ≡ false) × (firstOf rest ≡ 10)
 unfolding firstOf
 behind number true rest d e = absurd (d e)

@@ -51,12 +51,12 @@ table-begins-requires c κs = search needs
 returns-2 : tie.Need-returns-2
 returns-2 c =
     let e = c .before .before .before in
-    sym (ends-other (bytes-of e) (ok e) (λ z. c .if2 .taken (z ∙ sym (end-of (c .before)))))
+    sym (ends-other (bytes-of e) (ok e) (λ z. omega (arith, z, end-of (c .before), c .if2 .taken)))
 
 returns-3 : tie.Need-returns-3
 returns-3 c =
     let e = c .before .before .before in
-    sym (ends-good (bytes-of e) (ok e) (c .if2 .left ∙ end-of (c .before)))
+    sym (ends-good (bytes-of e) (ok e) (omega (arith, end-of (c .before), c .if2 .left)))
 
 pub file-refusal-spec : {M : Type 1} → statement M
 file-refusal-spec =

@@ -2,7 +2,7 @@
 -- behind the last there is nothing. Assumes nothing.
 use mathlib.Core.Path.{_≡_, sym, ap, ap₂, subst, _∙_}
 use mathlib.Core.List.{List, _++_}
-use Prim.Native.Nat.{ℕ, _+_, _-_, _*_, _≤_, _<_}
+use Prim.Native.Nat.{ℕ, _+_, _*_, _≤_}
 use native.Mathlib.Omega.{arith}
 use lib.ListN.{length}
 use Rattle.counting.proofs.Build.{length-build}
@@ -109,10 +109,9 @@ show-table-requires c κs =
     let e = c .before in
     let s = start-of e in
     let n = ap (λ (h : Heading). h .n) (s .pre .0 .0) in
-    let below : s .args .part - 1 < due (bytes-of s) = omega (arith, upto e, part-of e) in
     let room : 40 * tableRows (s .args .h .n) ≤ length (s .args .out .now) =
     omega (arith, ap tableRows n, room-table (bytes-of s) (s .args .part) (part-of e), s .pre .1) in
-    ((s .pre .0 .2, n, below), room)
+    ((s .pre .0 .2, n, omega (arith, upto e, part-of e)), room)
 
 same-length-2 : tie.Need-same-length-2
 same-length-2 c = search needs

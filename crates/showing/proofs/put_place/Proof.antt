@@ -31,7 +31,8 @@ size-of c =
 returns : tie.Need-returns
 returns c =
     let a = c .before .before .args in
-    (rw (place-none (a .n) (a .table) (a .place) (a .row) (c .if1 .taken)) (put-nothing _ _), search needs)
+    let none = place-none (a .n) (a .table) (a .place) (a .row) (omega (arith, c .if1 .taken)) in
+    (rw none (put-nothing _ _), search needs)
 
 cast-write-say : tie.Need-cast-write-say
 cast-write-say c =
@@ -63,7 +64,7 @@ returns-2 c =
     let w = c .before .before .before in
     let s = start-of w in
     let a = s .args in (
-      rw (place-some (a .n) (a .table) (a .place) (a .row) (w .before .before .if1 .left))
+      rw (place-some (a .n) (a .table) (a .place) (a .row) (λ z. omega (arith, z, w .before .before .if1 .left)))
           (say-put (a .n) (a .table) (a .place) (a .row) (s .pre .0) (s .pre .1) (s .pre .2) (s .pre .3)
           (s .fits .row .fits) (w .write-say .result) (a .out .now) _ (a .at) (s .pre .4) (w .write-say .ensures .0)
           (w .write-say .ensures .1)),
