@@ -2,10 +2,9 @@
 -- part m the lines of table m, counted from 1. A text is a list of bytes.
 use Prim.Native.Nat.{ℕ, zero, suc, _+_, _-_, _*_}
 use mathlib.Core.Bool.{cond}
-use mathlib.Core.List.{List, [], _∷_, _++_}
+use mathlib.Core.List.{List, [], _++_}
 use lib.Dec.{eqb, leb, ltb}
 use lib.ListN.{length}
-use Rattle.counting.specs.Refuse.{firstOf}
 use Rattle.sizes.specs.Sizes.{tableRows}
 use Rattle.runfile.specs.File.{tableRow}
 use Rattle.lines.specs.Line.{lineOf, placed}

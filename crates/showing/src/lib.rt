@@ -1,8 +1,10 @@
 // Shows a run file as text (docs/TEXT.md), part by part: the lines `run` and `rows`, and then the lines of each table.
 use runfile::Heading;
 ghost use mathlib.Core.Path.{_≡_};
+ghost use mathlib.Core.Bool.{cond};
 ghost use Prim.Native.Nat.{_+_, _*_, _≤_, _<_};
 ghost use mathlib.Core.List.{_++_};
+ghost use lib.Dec.{eqb};
 ghost use lib.ListN.{length, getD};
 ghost use Rattle.sizes.specs.Sizes.{tableRows};
 ghost use Rattle.lines.specs.Line.{lineOf};
@@ -13,7 +15,6 @@ ghost use Rattle.says.specs.Say.{rows-word};
 ghost use Rattle.showing.specs.Show.{
   placeText,
   placesText,
-  headingText,
   tableText,
   partText,
   partRoom,
@@ -48,7 +49,7 @@ fn file_refusal(h: Heading, bytes: &[u8]) -> u8
 // The room that a part may need at most.
 fn part_room(n: u8, part: usize) -> usize
     requires { ⌜ (1 ≤ n) × (n ≤ 13) ⌝ }
-    ensures { λ r. ⌜ (part ≡ 0 → r ≡ 300) × ((part ≡ 0 → ⊥) → r ≡ 40 * tableRows n) ⌝ }
+    ensures { λ r. ⌜ r ≡ cond (eqb part 0) 300 (40 * tableRows n) ⌝ }
 {
     if part == 0 {
         return 300;
@@ -72,12 +73,12 @@ fn show_refusal(h: Heading, bytes: &[u8], part: usize, room: usize) -> u8
 }
 
 // Puts the lines `run` and `rows`.
-fn put_heading(h: Heading, rows: &[u64], out: &mut [u8]) -> usize
+fn put_heading(n: u8, t: u8, faulty: u16, rows: &[u64], out: &mut [u8]) -> usize
     requires { ⌜ (length (now rows) ≤ 13) × (300 ≤ length (now out)) ⌝ }
     ensures { λ r. ⌜ Put (now (out .entry)) (now (out .exit)) 0 r
-        (runLine (h .n) (h .t) (h .faulty) ++ lineOf rows-word (now (rows .entry))) ⌝ }
+        (runLine n t faulty ++ lineOf rows-word (now (rows .entry))) ⌝ }
 {
-    let numbers = [h.n as u64, h.t as u64, h.faulty as u64];
+    let numbers = [n as u64, t as u64, faulty as u64];
     let end = lines::put_line(out, 0, b"run", &numbers);
     lines::put_line(out, end, b"rows", rows)
 }
@@ -130,7 +131,7 @@ fn put_part(h: Heading, rows: &[u64], bytes: &[u8], part: usize, out: &mut [u8])
     ensures { λ r. ⌜ Put (now (out .entry)) (now (out .exit)) 0 r (partText (now (bytes .entry)) part) ⌝ }
 {
     if part == 0 {
-        return put_heading(h, rows, out);
+        return put_heading(h.n, h.t, h.faulty, rows, out);
     }
     if (h.t as usize) + 1 < part {
         return 0;
