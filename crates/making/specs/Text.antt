@@ -1,13 +1,13 @@
 -- A text taken piece by piece, byte by byte, and its end; and what comes of a whole text, from its lines.
 use Prim.Native.Nat.{ℕ, _+_}
-use mathlib.Core.Bool.{cond}
+use mathlib.Core.Bool.{Bool, cond, not, _&&_, _||_}
 use mathlib.Core.List.{List, [], _∷_}
 use lib.Dec.{eqb, leb, ltb}
 use lib.ListN.{length, set, take}
 use Rattle.sizes.specs.Sizes.{sizeRefusal}
 use Rattle.making.specs.declared.Maker.{Maker}
 use Rattle.making.specs.declared.Made.{Made}
-use Rattle.making.specs.Make.{Progress, progress, noText, oneMore, settled, fileBytes, lineEnded}
+use Rattle.making.specs.Make.{Progress, progress, noText, oneMore, settled, isComment, fileBytes, lineEnded}
 
 -- a maker, the unfinished line and the file so far
 pub record Reading : Type 0 where
@@ -63,6 +63,11 @@ takeReply m text line file =
     cond (leb 3 (m .stage)) (reading m line file)
     (cond (ltb (length line) 1001) (reading (settled m 10 (m .fault)) line file)
     (bytesTaken (reading m line file) text))
+
+-- no text that follows can change the outcome: it is settled, or the unfinished line is too long and no comment
+unfoldable pub isSettled : Maker → List ℕ → Bool
+isSettled m line =
+    leb 3 (m .stage) || (ltb 1000 (length (take (m .kept) line)) && not (isComment (take (m .kept) line)))
 
 -- the outcome of a maker that is settled
 unfoldable pub settledAs : Maker → Made

@@ -5,6 +5,7 @@ ghost use mathlib.Core.List.{List};
 ghost use Prim.Native.Nat.{ℕ, _≤_, _<_, min};
 ghost use lib.ListN.{length};
 ghost use Rattle.counting.specs.Count.{build};
+ghost use Rattle.runfile.specs.Write.{writeHeadingRefusal};
 ghost use Rattle.making.specs.Make.{
   progress,
   noText,
@@ -19,6 +20,7 @@ ghost use Rattle.making.specs.Make.{
   runTaken,
   fileBytes,
   fileRoom,
+  emptyFile,
   rowsTaken,
   sayTaken,
   wordsTaken,
@@ -32,6 +34,7 @@ ghost use Rattle.making.specs.Text.{
   byteTaken,
   bytesTaken,
   takeReply,
+  isSettled,
   settledAs,
   endsEarly,
   refusedAs,
@@ -267,6 +270,25 @@ fn clear(bytes: &mut [u8])
     }
 }
 
+// Writes a file without any row that was said: the heading, and tables of zeros. The slice is as long as the file, or
+// empty. Gives the heading's refusal, and then writes nothing.
+fn write_empty(m: Maker, rows: &[u64], file: &mut [u8]) -> u8
+    requires { ⌜ ((length (now file) ≡ 0 → ⊥) → length (now file) ≡ fileBytes (m .n) (m .t)) ⌝ }
+    ensures { λ r. ⌜ (r ≡
+        writeHeadingRefusal (m .n) (m .t) (m .faulty) (now (rows .entry)) (length (now (file .entry)))) ×
+        (r ≡ 0 → now (file .exit) ≡ emptyFile m (now (rows .entry))) ×
+        ((r ≡ 0 → ⊥) → now (file .exit) ≡ now (file .entry)) ⌝ }
+{
+    let wrote = runfile::write_heading(m.n, m.t, m.faulty, rows, file);
+    if wrote.refusal != 0 {
+        return wrote.refusal;
+    }
+    let from = wrote.size;
+    let end = file.len();
+    clear(&mut file[from..end]);
+    0
+}
+
 // The line `rows`: the heading and tables of zeros go to the file.
 fn take_rows(m: Maker, named: bool, rows: &[u64], file: &mut [u8]) -> Maker
     ensures { λ r. ⌜ progress r (now (file .exit)) ≡
@@ -276,12 +298,10 @@ fn take_rows(m: Maker, named: bool, rows: &[u64], file: &mut [u8]) -> Maker
         return settle(m, m.refusal, 4);
     }
     let end = file_room(m.n, m.t, file.len());
-    let wrote = runfile::write_heading(m.n, m.t, m.faulty, rows, &mut file[0..end]);
-    if wrote.refusal != 0 {
-        return settle(m, wrote.refusal, m.fault);
+    let refusal = write_empty(m, rows, &mut file[0..end]);
+    if refusal != 0 {
+        return settle(m, refusal, m.fault);
     }
-    let from = wrote.size;
-    clear(&mut file[from..end]);
     reach(m, 2, m.n, m.t, m.faulty)
 }
 
@@ -314,7 +334,8 @@ fn take_words(m: Maker, line: &[u8], size: usize, numbers: &[u64], file: &mut [u
     ensures { λ r. ⌜ progress r (now (file .exit)) ≡
         wordsTaken (progress m (now (file .entry))) (now (line .entry)) size (now (numbers .entry)) ⌝ }
 {
-    match m.stage {
+    let stage = m.stage;
+    match stage {
         0 => take_run(m, has_word(line, size, b"run"), numbers),
         1 => take_rows(m, has_word(line, size, b"rows"), numbers, file),
         _ => take_say(m, has_word(line, size, b"say"), numbers, file),
@@ -421,6 +442,23 @@ pub fn take(maker: Maker, text: &[u8], line: &mut [u8], file: &mut [u8]) -> Make
     take_bytes(maker, text, line, &mut numbers, file)
 }
 
+// Can no text that follows change the outcome? It is settled, or the unfinished line is too long already and is no
+// comment. Who reads a text without end may stop there.
+pub fn is_settled(maker: Maker, line: &[u8]) -> bool
+    ensures { λ r. ⌜ r ≡ isSettled maker (now (line .entry)) ⌝ }
+{
+    if 3 <= maker.stage {
+        return true;
+    }
+    if maker.kept <= 1000 {
+        return false;
+    }
+    if line.len() <= 1000 {
+        return false;
+    }
+    !is_comment(line)
+}
+
 // The outcome of a maker that is settled.
 fn settled_as(m: Maker) -> Made
     ensures { λ r. ⌜ r ≡ settledAs m ⌝ }
@@ -485,7 +523,8 @@ fn whole_file(m: Maker, room: usize) -> Made
 fn outcome_by(m: Maker, room: usize) -> Made
     ensures { λ r. ⌜ r ≡ outcomeBy m room ⌝ }
 {
-    match m.stage {
+    let stage = m.stage;
+    match stage {
         0 => ends_early(m, 3),
         1 => ends_early(m, 4),
         2 => whole_file(m, room),
