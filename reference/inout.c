@@ -58,13 +58,18 @@ void put_all(void)
     out_used = 0;
 }
 
-/* The count is at most what the buffer holds. */
 void put_bytes(const void *bytes, size_t count)
 {
-    if (count > OUT_BYTES - out_used)
-        put_all();
-    memcpy(out + out_used, bytes, count);
-    out_used += count;
+    const char *from = bytes;
+    while (count > 0) {
+        size_t piece = count < OUT_BYTES - out_used ? count : OUT_BYTES - out_used;
+        memcpy(out + out_used, from, piece);
+        out_used += piece;
+        from += piece;
+        count -= piece;
+        if (out_used == OUT_BYTES)
+            put_all();
+    }
 }
 
 void put_word(const char *word)

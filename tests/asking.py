@@ -199,7 +199,7 @@ def too_long():
 def ended_streams(rng):
     """Streams that end in the midst: after some good requests one that is cut, unknown, or too long."""
     good = b"".join(broken(rng, name, ()).data for name in CALLS)
-    for kind in (0, 21, 22, 72, 255):
+    for kind in (0, 31, 32, 72, 255):
         yield f"kind {kind}", good + bytes((kind,)) + good
     for about, data in too_long():
         yield about, good + data + good
