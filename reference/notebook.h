@@ -95,7 +95,7 @@ struct listing {
     enum refusal ends;
 };
 
-/* What the line reader gives: the bytes of the word, and how many numbers follow. Both are 0 where it is no such line. */
+/* What the line reader gives: the bytes of the word, and how many numbers follow; both 0 where it is no such line. */
 struct words {
     size_t word_bytes;
     size_t count;
