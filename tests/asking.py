@@ -86,8 +86,8 @@ OFTEN = ("vote", "grade", "grade", "choice", "choice", "start", "iteration", "it
          "table")
 FURTHER = ("largest", "rows", "sizes", "member", "stray", "zero", "steps", "steps", "steps", "line", "line", "put",
            "put", "part", "part", "listing", "outcome")
-TEXTS = ("headed", "headed", "tabled", "read", "read", "read", "place", "place", "say", "say", "taken", "taken", "taken",
-         "ended", "ended", "told", "shown", "shown")
+TEXTS = ("headed", "headed", "tabled", "read", "read", "read", "place", "place", "say", "say", "taken", "taken",
+         "taken", "ended", "ended", "told", "shown", "shown")
 
 
 def any_request(rng):

@@ -43,7 +43,8 @@ def settled_by(refusal, fault):
     return f"refusal {refusal}" if refusal else f"fault {fault}"
 
 
-SETTLED = [settled_by(refusal, 0) for refusal in (4, 5, 6, 9, 10, 11)] + [settled_by(0, fault) for fault in range(1, 6)]
+SETTLED = [*(settled_by(refusal, 0) for refusal in (4, 5, 6, 9, 10, 11)),
+           *(settled_by(0, fault) for fault in range(1, 6))]
 
 
 def count_taken(words, data):
@@ -118,8 +119,8 @@ class Ended(Drawn):
 
 
 # Lines and makers that are put together without regard for each other.
-STOCK = (b"run 4 1 8", b"rows 10 20 30 0", b"rows 5", b"say 1 1 1 1 7", b"say 1 2 1 1 1 7", b"say 2 3 4 4 4 9", b"#", b"",
-         b"say 1 1 5 1 7", b"say", b"x", b" ", b"run 1 0 0", b"rows", b"\r", b" 1")
+STOCK = (b"run 4 1 8", b"rows 10 20 30 0", b"rows 5", b"say 1 1 1 1 7", b"say 1 2 1 1 1 7", b"say 2 3 4 4 4 9", b"#",
+         b"", b"say 1 1 5 1 7", b"say", b"x", b" ", b"run 1 0 0", b"rows", b"\r", b" 1")
 
 
 def wild_maker(rng, length):
@@ -146,7 +147,7 @@ def wild_requests(rng):
 # Edges.
 
 def line_lengths():
-    """A lent line of each length about 1,001, at each stage, with and without a text; and lines of about 1,000 bytes."""
+    """A lent line of each length about 1,001, at each stage, with a text and without; lines of about 1,000 bytes."""
     for stage in (0, 1, 2, 3, 4, 255):
         for length in (0, 1, 999, 1000, 1001, 1002, MOST_LENT):
             for text in (b"", b"x", b"\n", b"run 4 1 8\n"):

@@ -21,7 +21,7 @@ class Answer(NamedTuple):
 
 
 class Program:
-    """One way to start a program: input in, standard output and status out, and standard error where it is asked for."""
+    """One way to start a program: input in, standard output and status out, standard error where it is asked for."""
 
     def __init__(self, command, errors=False):
         self.command = shlex.split(command)

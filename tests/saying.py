@@ -55,7 +55,7 @@ class Text:
         return heading_bytes(self.n, self.t, bits(self.faulty), self.row) + tables
 
     def decorate(self, long_comment=False):
-        """Comments and empty lines anywhere, lines of 1,000 bytes, and carriage returns: all of them change nothing."""
+        """Comments and empty lines anywhere, and lines of 1,000 bytes: none of them changes anything."""
         rng = self.rng
         for _ in range(rng.choice((0, 1, 3, 8))):
             self.lines.insert(rng.randrange(len(self.lines) + 1), Line(raw=passed_over(rng)))
@@ -107,8 +107,9 @@ def some_row(rng):
 
 
 def passed_over(rng):
-    return rng.choice((b"", b" ", b"   ", b"\r", b"  \r", b" " * 1000, b" " * 999 + b"\r", b"#", b"# run 4 1 8", b"#\r",
-                       b"#run 4 1 8", b"#" * 1000, b"#" * 1001, b"#" * 1002, b"# \xff\0\t", b"#" + b"9" * 5000))
+    return rng.choice((b"", b" ", b"   ", b"\r", b"  \r", b" " * 1000, b" " * 999 + b"\r", b"#", b"# run 4 1 8",
+                       b"#\r", b"#run 4 1 8", b"#" * 1000, b"#" * 1001, b"#" * 1002, b"# \xff\0\t",
+                       b"#" + b"9" * 5000))
 
 
 def some_text(rng, most=13, says=None):

@@ -152,8 +152,9 @@ def one_with(place, row):
 
 def good_texts():
     """Texts of one box, and the run file that must come of each."""
-    for text in (b"run 1 0 0\nrows 5", LEAD, b"run 1 0 0\r\nrows 5\r\n", b"run 1 0 0\r\nrows 5\r", b"\n\n" + LEAD + b"\n\n",
-                 b"# x\n" + LEAD + b"#", b"run 001 00 0000\nrows 0005  \n", b"run  1   0    0   \nrows     5 \r\n",
+    for text in (b"run 1 0 0\nrows 5", LEAD, b"run 1 0 0\r\nrows 5\r\n", b"run 1 0 0\r\nrows 5\r",
+                 b"\n\n" + LEAD + b"\n\n", b"# x\n" + LEAD + b"#", b"run 001 00 0000\nrows 0005  \n",
+                 b"run  1   0    0   \nrows     5 \r\n",
                  b"\r\n  \r\n \n" + LEAD, b"#\r\n" + LEAD + b" ", LEAD + b"\r", LEAD + b"#" * 70001,
                  b"#" * 70001 + b"\n" + LEAD, b"#" + b"\r" * 70001 + b"\n" + LEAD, b"#\0\xff\n" * 3 + LEAD,
                  b"run 1 0 0".ljust(1000) + b"\nrows 5".ljust(1001) + b"\n" + b" " * 1000,
@@ -176,8 +177,9 @@ def good_texts():
 
 def refused_texts():
     """Texts that are refused, and the number: of several the first in the order 4, 5, 6, 11, 9."""
-    for run, rows, number in ((b"0 9 65535", b"0", 4), (b"14 0 0", b"1", 4), (b"300 1 8", b"1 1", 4), (b"255 0 0", b"", 4),
-                              (b"256 0 0", b"", 4), (b"257 0 0", b"5", 4), (b"%d 0 0" % (2**32 + 1), b"5", 4),
+    for run, rows, number in ((b"0 9 65535", b"0", 4), (b"14 0 0", b"1", 4), (b"300 1 8", b"1 1", 4),
+                              (b"255 0 0", b"", 4), (b"256 0 0", b"", 4), (b"257 0 0", b"5", 4),
+                              (b"%d 0 0" % (2**32 + 1), b"5", 4),
                               (b"%d 0 0" % TOP, b"5", 4), (b"4 2 16", b"0", 5), (b"4 255 0", b"1 1 1 1", 5),
                               (b"4 256 0", b"1 1 1 1", 5), (b"4 257 0", b"1 1 1 1", 5), (b"3 1 0", b"1 1 1", 5),
                               (b"1 %d 0" % 2**32, b"5", 5), (b"13 86 0", b" 1" * 13, 5), (b"13 255 0", b" 1" * 13, 5),
@@ -199,8 +201,9 @@ def bad_texts():
     for text, lines in ((b"run 1 0 0", 1), (b"run 1 0 0\n", 1), (b"run 1 0 0\n\n# x", 3), (b"run 300 9 9\n", 1),
                         (b"\n\nrun 1 0 0\r\n\r\n", 4)):
         yield text, lines + 1, 4
-    for text, line, fault in ((b"\0", 1, 3), (b"\xef\xbb\xbfrun 1 0 0\nrows 5\n", 1, 3), (b"run 1 0 0\n x\nrows 0\n", 2, 2),
-                              (b"run 4 9 8\nrun 4 1 8\nrows 0\n", 2, 4), (b"run 0 0 0\nsay 1 1 1 1 1\n", 2, 4),
+    for text, line, fault in ((b"\0", 1, 3), (b"\xef\xbb\xbfrun 1 0 0\nrows 5\n", 1, 3),
+                              (b"run 1 0 0\n x\nrows 0\n", 2, 2), (b"run 4 9 8\nrun 4 1 8\nrows 0\n", 2, 4),
+                              (b"run 0 0 0\nsay 1 1 1 1 1\n", 2, 4),
                               (b"run 1 0\n", 1, 3), (b"run 1 0 0 0\n", 1, 3), (b"run 1 0 x\n", 1, 2),
                               (b"run 1 0 %d\n" % (TOP + 1), 1, 2), (b"rows 5\nrun 1 0 0\n", 1, 3),
                               (b"run\t1 0 0\n", 1, 3), (b"run 1\t0 0\n", 1, 2), (b" run 1 0 0\n", 1, 2),
@@ -209,11 +212,11 @@ def bad_texts():
                               (b"y" * 1001, 1, 1), (b"y" * 70001 + b"\n", 1, 1), (b"y" * 1000, 1, 3),
                               (b" " * 1001 + b"\n", 1, 1), (b" #" + b" " * 999, 1, 1), (b" #", 1, 2)):
         yield text, line, fault
-    for say in (b"rows 5", b"run 1 0 0", b"say 1 1 1 1", b"say 1 1 1 1 1 1", b"say 1 2 1 1 1", b"say 1 3 1 1 1 1 1", b"say",
-                b"say 0 1 1 1 1", b"say 2 1 1 1 1", b"say 1 0 1 1 1", b"say 1 4 1 1 1 1", b"say 1 1 0 1 1", b"say 1 1 2 1 1",
-                b"say 1 1 1 0 1", b"say 1 1 1 2 1", b"say 1 2 1 1 0 1", b"say 1 2 1 1 2 1", b"Say 1 1 1 1 1", b"x",
-                b"say %d 1 1 1 1" % TOP, b"say 1 %d 1 1 1 1" % TOP, b"say 1 1 %d 1 1" % TOP, b"say 1 1 %d 1 1" % (2**32 + 1),
-                b"say 257 1 1 1 1", b"say 1 257 1 1 1"):
+    for say in (b"rows 5", b"run 1 0 0", b"say 1 1 1 1", b"say 1 1 1 1 1 1", b"say 1 2 1 1 1", b"say 1 3 1 1 1 1 1",
+                b"say", b"say 0 1 1 1 1", b"say 2 1 1 1 1", b"say 1 0 1 1 1", b"say 1 4 1 1 1 1", b"say 1 1 0 1 1",
+                b"say 1 1 2 1 1", b"say 1 1 1 0 1", b"say 1 1 1 2 1", b"say 1 2 1 1 0 1", b"say 1 2 1 1 2 1",
+                b"Say 1 1 1 1 1", b"x", b"say %d 1 1 1 1" % TOP, b"say 1 %d 1 1 1 1" % TOP, b"say 1 1 %d 1 1" % TOP,
+                b"say 1 1 %d 1 1" % (2**32 + 1), b"say 257 1 1 1 1", b"say 1 257 1 1 1"):
         yield LEAD + say + b"\n" + LEAD, 3, 5
         yield LEAD + b"\n# x\n" + say, 5, 5
     yield LEAD + b"say 1 1 1 1 1".ljust(1001), 3, 1
@@ -264,7 +267,8 @@ def compare_texts(programs, seed, number):
         programs.any_bytes(f"seed {seed} bytes {i}", random.Random(f"{seed} bytes {i}"))
     choices = list(saying.damage_choices())
     for i in range(max(len(choices), number)):
-        programs.bad_text(f"seed {seed} bad text {i}", random.Random(f"{seed} bad text {i}"), choices[i % len(choices)])
+        where = f"seed {seed} bad text {i}"
+        programs.bad_text(where, random.Random(where), choices[i % len(choices)])
     for i in range(max(len(runfiles.KINDS), number // 3)):
         kind = runfiles.KINDS[i % len(runfiles.KINDS)]
         programs.both_ways(f"seed {seed} shown {i}", random.Random(f"{seed} shown {i}"), kind)
