@@ -4,6 +4,7 @@ The maker before a request is what textrules.py has after the pieces before it, 
 """
 
 import struct
+from functools import cached_property
 
 import saying
 from calls import Call, Request
@@ -89,11 +90,17 @@ class Drawn(Call):
         self.taken = self.text[:at]
         self.left = self.text[at:rng.choice((len(self.text), rng.randrange(at, len(self.text) + 1)))]
 
+    @cached_property
+    def request(self):
+        maker, line = Maker(**vars(self.maker)), bytearray(self.line)
+        maker.take(self.taken, line, lent_file(MOST_LENT))
+        return self.ask(maker, line)
+
     def to_bytes(self):
-        return self.request().data
+        return self.request.data
 
     def known(self):
-        return self.request().reply
+        return self.request.reply
 
 
 class Taken(Drawn):
@@ -101,9 +108,7 @@ class Taken(Drawn):
     def answers(cls):
         return ["stage 0", "stage 1", "stage 2", "settled before", *SETTLED]
 
-    def request(self):
-        maker, line = Maker(**vars(self.maker)), bytearray(self.line)
-        maker.take(self.taken, line, lent_file(MOST_LENT))
+    def ask(self, maker, line):
         return taken(maker, self.left, line, self.length, "")
 
 
@@ -112,9 +117,7 @@ class Ended(Drawn):
     def answers(cls):
         return ["a run file", *SETTLED]
 
-    def request(self):
-        maker, line = Maker(**vars(self.maker)), bytearray(self.line)
-        maker.take(self.taken, line, lent_file(MOST_LENT))
+    def ask(self, maker, line):
         return ended(maker, line, self.length, "")
 
 
