@@ -236,9 +236,15 @@ def in_pieces(text, cuts, length, about):
     yield ended(maker, line, length, about)
 
 
+ONE_BOX = b"# one\nrun 1 0 0\r\n\nrows  05 \nsay 1 1 1 1 20\nsay 1 3 1 1 1 30\n#\nsay 1 1 1 1 40"
+
+
 def cut_texts(rng):
-    """Case S cut at every place, and other texts cut at some."""
-    for cut in range(len(CASE_S) + 1):
+    """A text of one box cut at every place, once or twice, case S at some, and other texts."""
+    for cut in range(len(ONE_BOX) + 1):
+        yield from in_pieces(ONE_BOX, (cut,), 41, "one box in pieces")
+        yield from in_pieces(ONE_BOX, sorted((cut, rng.randrange(len(ONE_BOX)))), 42, "one box in pieces")
+    for cut in range(0, len(CASE_S) + 1, 7):
         yield from in_pieces(CASE_S, (cut,), 2345, "case S in pieces")
     yield from in_pieces(CASE_S, range(1, len(CASE_S)), 60, "case S byte by byte, no room")
     for _ in range(60):
@@ -262,10 +268,10 @@ def case_s_whole():
 def damaged_texts(rng):
     """Every damage of a text, alone and two at once. What is told at the end must be what the damage led to."""
     for damages in saying.damage_choices():
-        data, due = saying.damaged(rng, damages, 5)
+        data, due = saying.damaged(rng, damages, 4)
         while len(data) > MOST_LENT:
-            data, due = saying.damaged(rng, damages, 5)
-        *pieces, end = in_pieces(data, (rng.randrange(len(data) + 1),), 4449, f"text with {saying.name_of(damages)}")
+            data, due = saying.damaged(rng, damages, 4)
+        *pieces, end = in_pieces(data, (rng.randrange(len(data) + 1),), 2345, f"text with {saying.name_of(damages)}")
         numbers = [int(word) for word in end.reply.split(" ")[1:4]]
         if due is not None and told(*numbers) != due:
             raise AssertionError(f"{saying.name_of(damages)}: {due} should be told")

@@ -444,9 +444,9 @@ def shown_edges(rng):
                               file.shown(part, lent))
     for damages in damage_choices():
         file = File(rng, damages)
-        for part in (0, 1, TOP):
-            yield Request(shown_bytes(file.data, part, 20000), "part of a damaged file", file.ends,
-                          file.shown(part, 20000))
+        for part, lent in ((0, 300), (0, 299), (1, 20), (TOP, 0)):
+            yield Request(shown_bytes(file.data, part, lent), "part of a damaged file", file.ends,
+                          file.shown(part, lent))
 
 
 def shown_files(rng):
@@ -464,9 +464,9 @@ def shown_files(rng):
     run = silent_run(PLACES, 4, range(12), TOP)
     for table in run.tables:
         table.rows = [TOP] * len(table.rows)
-    for part in (0, 1, 5, 6):
+    for part in (0, 5, 6):
         least = room(run, part)
-        for lent in (least - 1, least, MOST_FILE):
+        for lent in (least, MOST_FILE if part == 5 else least - 1):
             yield Request(shown_bytes(run.to_bytes(), part, lent), "part of the largest file", None,
                           shown_reply(run, 0, part, lent))
 
