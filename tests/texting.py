@@ -36,10 +36,9 @@ def outcome_name(said, good):
 
 
 class Texts:
-    def __init__(self, report, make, show, reference):
-        """`reference` are the second program's two ways, to make and to show."""
+    def __init__(self, report, make, show, second_make, second_show):
         self.report = report
-        self.programs = {"make": (make, reference[0]), "show": (show, reference[1])}
+        self.programs = {"make": (make, second_make), "show": (show, second_show)}
 
     def same(self, where, which, data):
         """Runs both programs. Gives the second one's answer."""
