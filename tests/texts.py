@@ -359,6 +359,11 @@ def told_edges():
 
 # Parts shown.
 
+def wide_number(rng):
+    """Some are 0 in 32 bits, and some have a byte of each value."""
+    return rng.choice((some_number(rng), 2**32, 2**33, 2**63, 0x0102030405060708, rng.randrange(1, 2**32) << 32))
+
+
 class File:
     """A run file that need not do anything sensible, its parts, and the number with which its listing ends."""
 
@@ -369,7 +374,7 @@ class File:
         rows = [rng.choice((0, some_number(rng))) if k in faulty else some_number(rng) or 1 for k in range(n)]
         self.run = Run(n, t, faulty, rows, "shown", 255 if t == largest_t(n) and rng.random() < 0.4 else t)
         often = rng.choice((0.0, 0.1, 0.9))
-        self.run.tables = [Table(n, lambda: some_number(rng) if rng.random() < often else 0) for _ in range(t + 1)]
+        self.run.tables = [Table(n, lambda: wide_number(rng) if rng.random() < often else 0) for _ in range(t + 1)]
         self.data = self.run.to_bytes()
         for _, hurt in sorted(damages, key=lambda one: one[1] in OF_LENGTH):
             self.data = hurt(rng, self.run, self.data)
