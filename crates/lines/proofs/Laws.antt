@@ -7,9 +7,9 @@ use Prim.Native.Nat.{ℕ, _+_, _-_, _*_, _/_, _%_, _^_, _≤_, _<_}
 use native.Mathlib.Decide.{decLt}
 use native.Mathlib.Omega.{arith}
 use lib.ListN.{length, getD, take, drop, List·getD-append}
-use lib.Seq.{getD-at, take-at, drop-at}
+use lib.Seq.{getD-at}
 use Rattle.counting.proofs.Count.{at-or-below}
-use Rattle.lines.specs.Line.{decimal, lineOf, placed, lineWrites, readOn}
+use Rattle.lines.specs.Line.{decimal, lineOf, lineWrites, readOn}
 use Rattle.lines.proofs.Decimal.{
   decimal-small,
   decimal-large,
@@ -19,7 +19,7 @@ use Rattle.lines.proofs.Decimal.{
   by-tenths,
 }
 use Rattle.lines.proofs.Lines.{line-leaves, line-written}
-use Rattle.lines.proofs.Placed.{placed-length}
+use Rattle.lines.proofs.Placed.{placed-length, placed-found, placed-rest}
 
 read-last : (before : ℕ) (text : List ℕ) (byte : ℕ) →
     readOn before (text ++ (byte ∷ [])) ≡ readOn before text * 10 + (byte - 48)
@@ -91,17 +91,13 @@ module _ (word numbers slice : List ℕ) where
   -- the line stands at its front
   pub line-front : length (lineOf word numbers) ≤ length slice →
       take (length (lineOf word numbers)) (lineWrites word numbers slice) ≡ lineOf word numbers
-  unfolding placed
   line-front l =
       ap (take (length (lineOf word numbers))) (line-written word numbers slice l)
-      ∙ take-at (lineOf word numbers) _ (length (lineOf word numbers)) refl
+      ∙ placed-found slice (lineOf word numbers)
 
   -- the rest stays
   pub line-rest : length (lineOf word numbers) ≤ length slice →
       drop (length (lineOf word numbers)) (lineWrites word numbers slice) ≡ drop (length (lineOf word numbers)) slice
-  unfolding placed
   line-rest l =
-      let none : 0 + length (lineOf word numbers) ≡ length (lineOf word numbers) = omega arith in
       ap (drop (length (lineOf word numbers))) (line-written word numbers slice l)
-      ∙ drop-at (lineOf word numbers) _ (length (lineOf word numbers)) refl
-      ∙ ap (λ (m : ℕ). drop m slice) none
+      ∙ placed-rest slice (lineOf word numbers)

@@ -1,7 +1,7 @@
 -- Texts written into a slice: the slice keeps its length, one store writes one byte, a text that follows another
 -- makes one longer text, and a text may be copied to the front of the slice or of what lies from a place on. Assumes
 -- nothing.
-use mathlib.Core.Path.{_≡_, sym, ap, ap₂, subst, _∙_}
+use mathlib.Core.Path.{_≡_, refl, sym, ap, ap₂, subst, _∙_}
 use mathlib.Core.List.{List, [], _∷_, _++_, append-assoc, append-nil}
 use Prim.Native.Nat.{ℕ, _+_, _-_, _≤_, _<_}
 use native.Mathlib.Nat.{add-zero}
@@ -104,3 +104,14 @@ placed-copied xs at s ys e =
     ∙ placed-front (take (length xs - at) (drop at xs)) s
     ∙ ap (λ (zs : List ℕ). placed zs 0 s) (rest-whole xs at))
     ∙ placed-within xs at s
+
+-- at the front of the slice the text is found again, and the rest as it was
+pub placed-found : (xs s : List ℕ) → take (length s) (placed xs 0 s) ≡ s
+unfolding placed
+placed-found xs s = take-at s _ (length s) refl
+
+pub placed-rest : (xs s : List ℕ) → drop (length s) (placed xs 0 s) ≡ drop (length s) xs
+unfolding placed
+placed-rest xs s =
+    let none : 0 + length s ≡ length s = omega arith in
+    drop-at s _ (length s) refl ∙ ap (λ (m : ℕ). drop m xs) none

@@ -1,8 +1,9 @@
-// The lines of text: a word and numbers in decimal, written at the front of a lent slice.
+// The lines of text: a word and numbers in decimal, written at the front of a lent slice, and read.
 ghost use mathlib.Core.Path.{_≡_};
-ghost use Prim.Native.Nat.{_+_, _≤_};
+ghost use mathlib.Core.Bool.{true, _&&_};
+ghost use Prim.Native.Nat.{_+_, _-_, _*_, _^_, _≤_};
 ghost use lib.Dec.{ltb};
-ghost use lib.ListN.{length};
+ghost use lib.ListN.{length, take, drop};
 ghost use Rattle.lines.specs.Line.{
   decimal,
   field,
@@ -13,6 +14,18 @@ ghost use Rattle.lines.specs.Line.{
   lineWrites,
   putReply,
   putWrites,
+  readOn,
+};
+ghost use Rattle.lines.specs.Read.{
+  bare,
+  piece,
+  isDigit,
+  isSmall,
+  wordIn,
+  isLine,
+  numbersIn,
+  readReply,
+  readWrites,
 };
 
 // The reply of a line: the refusal's number, or 0 with the number of bytes written.
@@ -139,4 +152,193 @@ pub fn put_line(text: &mut [u8], at: usize, word: &[u8], numbers: &[u64]) -> usi
         return at;
     }
     put_within(text, at, word, numbers)
+}
+
+// The reply of a line that is read: the refusal's number, or 0 with the length of the word and how many numbers there
+// are.
+pub struct Words {
+    pub refusal: u8,
+    pub word: usize,
+    pub count: usize,
+}
+
+// A number with one more digit, where it is a digit and the number stays below 2⁶⁴.
+struct Longer {
+    good: bool,
+    value: u64,
+}
+
+// What stands before the next space or the end, read as a number: where it ends, and its value.
+struct Piece {
+    good: bool,
+    next: usize,
+    value: u64,
+}
+
+// How many numbers a line has, where it is a word and numbers.
+struct Found {
+    good: bool,
+    count: usize,
+}
+
+// How many bytes are left of the line without a carriage return at its very end.
+fn bare_size(line: &[u8]) -> usize
+    ensures { λ r. ⌜ r ≤ length (now (line .entry)) ⌝ }
+    ensures { λ r. ⌜ take r (now (line .entry)) ≡ bare (now (line .entry)) ⌝ }
+{
+    let size = line.len();
+    if size == 0 {
+        return 0;
+    }
+    if line[size - 1] == b'\r' {
+        return size - 1;
+    }
+    size
+}
+
+// Puts one more digit behind a number.
+fn add_digit(value: u64, byte: u8) -> Longer
+    ensures { λ r. ⌜ r .good ≡ (isDigit byte && ltb (value * 10 + (byte - 48)) (2 ^ 64)) ⌝ }
+    ensures { λ r. ⌜ (r .good ≡ true → r .value ≡ value * 10 + (byte - 48)) ⌝ }
+{
+    if byte < b'0' {
+        return Longer {
+            good: false,
+            value: 0,
+        };
+    }
+    if b'9' < byte {
+        return Longer {
+            good: false,
+            value: 0,
+        };
+    }
+    let digit = (byte - b'0') as u64;
+    if (18446744073709551615 - digit) / 10 < value {
+        return Longer {
+            good: false,
+            value: 0,
+        };
+    }
+    Longer {
+        good: true,
+        value: value * 10 + digit,
+    }
+}
+
+// Reads the digits from a place on, up to the next space or the end. None at all are read as 0.
+fn read_piece(line: &[u8], from: usize) -> Piece
+    requires { ⌜ from ≤ length (now line) ⌝ }
+    ensures { λ r. ⌜ r .good ≡ isSmall (piece (drop from (now (line .entry)))) ⌝ }
+    ensures { λ r. ⌜ (r .good ≡ true → r .next ≡ from + length (piece (drop from (now (line .entry))))) ⌝ }
+    ensures { λ r. ⌜ (r .good ≡ true → r .value ≡ readOn 0 (piece (drop from (now (line .entry))))) ⌝ }
+{
+    let mut value: u64 = 0;
+    let mut i = from;
+    while i < line.len() {
+        let byte = line[i];
+        if byte == b' ' {
+            return Piece {
+                good: true,
+                next: i,
+                value,
+            };
+        }
+        let more = add_digit(value, byte);
+        if !more.good {
+            return Piece {
+                good: false,
+                next: 0,
+                value: 0,
+            };
+        }
+        value = more.value;
+        i += 1;
+    }
+    Piece {
+        good: true,
+        next: i,
+        value,
+    }
+}
+
+// Whether a line is a word and numbers, and how many numbers it has. `at` is a space, or the end of the line.
+fn find_numbers(line: &[u8], word: usize) -> Found
+    requires { ⌜ word ≡ length (wordIn (now line)) ⌝ }
+    ensures { λ r. ⌜ r .good ≡ isLine (now (line .entry)) ⌝ }
+    ensures { λ r. ⌜ (r .good ≡ true → r .count ≡ length (numbersIn (now (line .entry)))) ⌝ }
+{
+    if word == 0 {
+        return Found {
+            good: false,
+            count: 0,
+        };
+    }
+    let mut count: usize = 0;
+    let mut at = word;
+    while at < line.len() {
+        let part = read_piece(line, at + 1);
+        if !part.good {
+            return Found {
+                good: false,
+                count: 0,
+            };
+        }
+        if at + 1 < part.next {
+            count += 1;
+        }
+        at = part.next;
+    }
+    Found { good: true, count }
+}
+
+// Writes the numbers of a line at the front of the slice.
+fn take_numbers(line: &[u8], word: usize, numbers: &mut [u64])
+    requires { ⌜ word ≡ length (wordIn (now line)) ⌝ }
+    requires { ⌜ isLine (now line) ≡ true ⌝ }
+    requires { ⌜ length (numbersIn (now line)) ≤ length (now numbers) ⌝ }
+    ensures { λ r. ⌜ now (numbers .exit) ≡ placed (now (numbers .entry)) 0 (numbersIn (now (line .entry))) ⌝ }
+{
+    let mut count: usize = 0;
+    let mut at = word;
+    while at < line.len() {
+        let part = read_piece(line, at + 1);
+        if at + 1 < part.next {
+            numbers[count] = part.value;
+            count += 1;
+        }
+        at = part.next;
+    }
+}
+
+// Reads a line that is given without its newline: a word, and numbers behind spaces, which are written at the front of
+// the slice. Refusal 10.
+pub fn read_line(line: &[u8], numbers: &mut [u64]) -> Words
+    ensures { λ r. ⌜ r ≡ readReply (now (line .entry)) (length (now (numbers .entry))) ⌝ }
+    ensures { λ r. ⌜ now (numbers .exit) ≡ readWrites (now (line .entry)) (now (numbers .entry)) ⌝ }
+{
+    let end = bare_size(line);
+    let word = bytes::scan::find(line, 0, end, b' ');
+    let found = find_numbers(&line[..end], word);
+    if !found.good {
+        return Words {
+            refusal: 0,
+            word: 0,
+            count: 0,
+        };
+    }
+    let count = found.count;
+    if numbers.len() < count {
+        return Words {
+            refusal: 10,
+            word: 0,
+            count: 0,
+        };
+    }
+    take_numbers(&line[..end], word, numbers);
+    Words {
+        refusal: 0,
+        word,
+        count,
+    }
 }

@@ -55,16 +55,16 @@ module _ (bytes : List ℕ) (ok : heading bytes .refusal ≡ 0) where
   unfolding heading
   passed = sym (heading-number bytes 13) ∙ ok
 
-  taken : Readable bytes (length thirteen)
-  taken = heading-readable bytes (length thirteen) passed
+  pub heading-reads : Readable bytes (length thirteen)
+  heading-reads = heading-readable bytes (length thirteen) passed
 
-  says : heading bytes ≡ headingOf bytes
+  pub heading-says : heading bytes ≡ headingOf bytes
   unfolding heading
-  says = heading-given bytes thirteen passed
+  heading-says = heading-given bytes thirteen passed
 
   n-is : heading bytes .n ≡ nOf bytes
   unfolding headingOf
-  n-is = ap (λ (h : Heading). h .n) says
+  n-is = ap (λ (h : Heading). h .n) heading-says
 
   pub heading-rows : take (heading bytes .n) (headingWrites bytes thirteen) ≡ rowsOf bytes
   unfolding rowsOf
@@ -76,7 +76,7 @@ module _ (bytes : List ℕ) (ok : heading bytes .refusal ≡ 0) where
   unfolding headingOf
   heading-starts =
       subst (Startable (heading bytes .n) (heading bytes .t) (heading bytes .faulty)) heading-rows
-      (rw says (heading-startable bytes thirteen passed))
+      (rw heading-says (heading-startable bytes thirteen passed))
 
   pub heading-low : 1 ≤ heading bytes .n
   heading-low = inside-low _ (heading-starts .pass4)
@@ -86,10 +86,10 @@ module _ (bytes : List ℕ) (ok : heading bytes .refusal ≡ 0) where
 
   pub heading-few : 3 * heading bytes .t < heading bytes .n
   unfolding headingOf
-  heading-few = rw says (heading-tolerates bytes (length thirteen) passed)
+  heading-few = rw heading-says (heading-tolerates bytes (length thirteen) passed)
 
   pub heading-whole : headingBytes (heading bytes .n) ≤ length bytes
-  heading-whole = rw n-is (taken .whole)
+  heading-whole = rw n-is (heading-reads .whole)
 
   -- a start over what was read and written is the first reply
   pub start-reply : (h : Heading) (rows : List ℕ) (r : Next) → h ≡ heading bytes →

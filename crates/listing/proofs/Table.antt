@@ -2,15 +2,15 @@
 -- the faulty senders alone gives the reply of the whole table, since it reads no others.
 -- Assumes nothing.
 use mathlib.Core.Path.{_≡_, refl, sym, ap, subst, _∙_}
-use mathlib.Core.List.{List, []}
+use mathlib.Core.List.{List}
 use Prim.Native.Nat.{ℕ, _+_, _-_, _*_, _≤_, _<_}
 use native.Mathlib.Omega.{arith}
 use lib.ListN.{length, take, drop, length-drop}
 use lib.Seq.{take-all, length-take-le}
-use borrow.Author.Tests.{eq-eqb, ne-eqb, le-ltb}
-use Rattle.counting.proofs.Bools.{not-of-true, not-of-false}
+use borrow.Author.Tests.{ne-eqb}
+use Rattle.counting.proofs.Bools.{not-of-false}
 use Rattle.counting.proofs.Build.{length-build}
-use Rattle.counting.proofs.Refuse.{refused, passed, none-left}
+use Rattle.counting.proofs.Refuse.{refused, passed}
 use Rattle.sizes.specs.Sizes.{tableRows}
 use Rattle.sizes.proofs.Laws.{inside, table-le}
 use Rattle.run.specs.declared.Run.{Run}
@@ -19,6 +19,7 @@ use Rattle.run.specs.State.{iterateReply}
 use Rattle.run.proofs.Blind.{iterate-blind}
 use Rattle.runfile.specs.File.{tableRow}
 use Rattle.runfile.specs.Reply.{tableTests, tableRefusal}
+use Rattle.runfile.proofs.Laws.{table-passes}
 use Rattle.listing.specs.File.{tableBytes, tableBegins, bytesOf, tableOf, refusedTable}
 use Rattle.listing.specs.Inside.{TakenTo, Underway, Advanced}
 use Rattle.listing.proofs.Heading.{first-refused, first-passed}
@@ -44,12 +45,9 @@ module _ (n : ℕ) (bytes : List ℕ) (m : ℕ) (low : 1 ≤ n) (high : n ≤ 13
       (omega (arith, length-drop (tableBegins n m) bytes))
 
   pub table-good : tableBytes n ≤ length bytes - tableBegins n m → tableRefusal n (bytesOf n bytes m) 4563 ≡ 0
-  unfolding tableRefusal tableTests
   table-good h =
-      passed 4 _ (inside n low high)
-      ∙ passed 8 _ (not-of-true (eq-eqb _ _ (table-long h)))
-      ∙ passed 10 [] (le-ltb _ _ (table-le high))
-      ∙ none-left
+      table-passes n (bytesOf n bytes m) 4563
+      (record { inside = inside n low high; exact = table-long h; enough = table-le high })
 
 module _ (s : Run) (bytes : List ℕ) (u : Underway s bytes) where
   pub cut-short : length bytes - tableBegins (s .n) (s .done) < tableBytes (s .n) →

@@ -62,7 +62,7 @@ not-zero zero h = absurd (h refl)
 not-zero (suc row) h = omega arith
 
 -- all are passed, or the first that is not is refused
-data Ends (f : ℕ → ℕ) (k : ℕ) : Type 0 where
+pub data Ends (f : ℕ → ℕ) (k : ℕ) : Type 0 where
   all : passed f k ≡ k → Ends f k
   one : passed f k < k → (f (passed f k) ≡ 0 → ⊥) → Ends f k
 
@@ -85,7 +85,7 @@ ends-next f k (Ends.all e) = here (ℕ-discrete (f k) 0)
         let same = passed-stops f k (suc k) e d (omega arith) in
         Ends.one (omega (arith, same)) (λ z. d (ap f (sym same) ∙ z))
 
-passed-ends : (f : ℕ → ℕ) (k : ℕ) → Ends f k
+pub passed-ends : (f : ℕ → ℕ) (k : ℕ) → Ends f k
 unfolding passed
 passed-ends f zero = Ends.all refl
 passed-ends f (suc k) = ends-next f k (passed-ends f k)

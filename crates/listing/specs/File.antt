@@ -6,7 +6,7 @@ use mathlib.Core.List.{List}
 use lib.Dec.{eqb, ltb}
 use lib.ListN.{length, take, drop}
 use Rattle.counting.specs.Count.{build}
-use Rattle.sizes.specs.Sizes.{tableRows}
+use Rattle.sizes.specs.Sizes.{tableRows, byN}
 use Rattle.run.specs.declared.Run.{Run}
 use Rattle.run.specs.declared.Next.{Next}
 use Rattle.run.specs.State.{startReply, after}
@@ -25,6 +25,10 @@ tableBytes n = 8 * tableRows n
 -- where table m begins: behind the heading and the m tables before it
 unfoldable pub tableBegins : ℕ → ℕ → ℕ
 tableBegins n m = headingBytes n + m * tableBytes n
+
+-- the same as a reply, for any n: 0 outside 1 to 13
+unfoldable pub beginsReply : ℕ → ℕ → ℕ
+beginsReply n m = byN (λ k. tableBegins k m) n
 
 -- the bytes of table m of n boxes: as many as a table has, or as many as are left
 unfoldable pub bytesOf : ℕ → List ℕ → ℕ → List ℕ

@@ -8,7 +8,7 @@ ghost use Prim.Native.Nat.{_+_, _≤_, _<_};
 ghost use lib.Dec.{ltb};
 ghost use lib.ListN.{length};
 ghost use Rattle.counting.specs.Sets.{member};
-ghost use Rattle.listing.specs.File.{tableBegins, tableBytes};
+ghost use Rattle.listing.specs.File.{tableBegins, tableBytes, beginsReply};
 ghost use Rattle.listing.specs.Inside.{
   Taken,
   Keeps,
@@ -92,12 +92,22 @@ fn take_faulty(n: usize, faulty: u16, bytes: &[u8], table: &mut [u64])
     }
 }
 
-// Where table m of n boxes begins in a file.
+// Where table m of n boxes begins in a file, or ends where m tables are all. 0 for an n outside 1 to 13.
+pub fn table_begins(n: u8, m: u8) -> usize
+    ensures { λ r. ⌜ r ≡ beginsReply n m ⌝ }
+{
+    match n {
+        1..=13 => 9 + 8 * (n as usize) + (m as usize) * (8 * sizes::table_rows(n)),
+        _ => 0,
+    }
+}
+
+// The same for an n that has passed, and at most as many tables as a file has.
 fn begins(n: u8, m: u8) -> usize
     requires { ⌜ (1 ≤ n) × (n ≤ 13) × (m ≤ 5) ⌝ }
     ensures { λ r. ⌜ (r ≡ tableBegins n m) × (r ≤ 182633) ⌝ }
 {
-    9 + 8 * (n as usize) + (m as usize) * (8 * sizes::table_rows(n))
+    table_begins(n, m)
 }
 
 // The heading and the start: the state before the first iteration, or the refusal.

@@ -1,10 +1,10 @@
 -- The heading reader ignores what follows the heading: two files that agree in the first 9 + 8n bytes, and have so
 -- many, are read alike, refused ones too. Each number of the heading lies within those bytes, and of the length only
 -- whether it reaches so far is asked. Where n is outside 1 to 13 the first 9 bytes are enough. Assumes nothing.
-use mathlib.Core.Path.{_≡_, refl, sym, ap, ap₂, _∙_}
+use mathlib.Core.Path.{_≡_, refl, sym, ap, _∙_}
 use mathlib.Core.Bool.{Bool, true, false}
 use mathlib.Core.List.{List, _++_}
-use Prim.Native.Nat.{ℕ, zero, suc, _+_, _*_, _≤_, _<_}
+use Prim.Native.Nat.{ℕ, _+_, _*_, _≤_, _<_}
 use native.Mathlib.Decide.{ℕ-discrete}
 use native.Mathlib.Omega.{arith}
 use lib.Dec.{ltb}
@@ -32,6 +32,7 @@ use Rattle.runfile.specs.Reply.{
   headingReply,
   headingWrites,
 }
+use Rattle.runfile.proofs.Bytes.{number-ext}
 use Rattle.runfile.proofs.Laws.{heading-readable}
 
 -- two files that agree in the first m bytes, which hold the heading
@@ -44,10 +45,7 @@ pub record SameHeading (m : ℕ) (a b : List ℕ) : Type 0 where
 
 module _ (m : ℕ) (a b : List ℕ) (h : SameHeading m a b) where
   number-same : (at size : ℕ) → at + size ≤ m → number a at size ≡ number b at size
-  unfolding number
-  number-same at zero l = refl
-  number-same at (suc size) l =
-      ap₂ (λ (x y : ℕ). x * 256 + y) (number-same at size (omega arith)) (h .same (at + size) (omega arith))
+  number-same at size l = number-ext a b at at size (λ i k. h .same (at + i) (omega arith))
 
   byte-same : (i : ℕ) → i < 9 → getD a i 0 ≡ getD b i 0
   byte-same i l = h .same i (omega (arith, h .fixed))

@@ -2,17 +2,17 @@
 -- takes, a refused read leaves the slice, and the slice keeps its length. Assumes nothing.
 use mathlib.Core.Path.{_≡_, refl, sym, ap, _∙_}
 use mathlib.Core.Bool.{Bool, true, false, not, cond, _&&_}
-use mathlib.Core.List.{List}
+use mathlib.Core.List.{List, []}
 use Prim.Native.Nat.{ℕ, _*_, _≤_, _<_}
 use native.Mathlib.Decide.{ℕ-discrete}
 use lib.Dec.{eqb}
 use lib.ListN.{length, take, drop}
 use lib.Seq.{take-at}
-use borrow.Author.Tests.{ltb-false, eqb-true, eq-eqb, ne-eqb}
+use borrow.Author.Tests.{ltb-false, le-ltb, eqb-true, eq-eqb, ne-eqb}
 use Rattle.counting.specs.Count.{build}
-use Rattle.counting.proofs.Bools.{not-false, cond-true, cond-false}
+use Rattle.counting.proofs.Bools.{not-false, not-of-true, cond-true, cond-false}
 use Rattle.counting.proofs.Build.{length-build}
-use Rattle.counting.proofs.Refuse.{accepted}
+use Rattle.counting.proofs.Refuse.{accepted, passed, none-left}
 use Rattle.sizes.specs.Sizes.{Startable, outside, tooMany, stray, soundZero, tableRows, largestT}
 use Rattle.sizes.proofs.Laws.{inside-low, tolerated, tolerated-lt, largest-tolerated}
 use Rattle.runfile.specs.declared.Heading.{Heading}
@@ -67,6 +67,21 @@ heading-readable bytes room h =
       enough = ltb-false _ _ (a10 .0);
     }
 
+-- and a heading that passes them is not refused
+pub readable-passes : (bytes : List ℕ) (room : ℕ) → Readable bytes room → headingRefusal bytes room ≡ 0
+unfolding headingRefusal headingTests
+readable-passes bytes room a =
+    passed 1 _ (le-ltb _ _ (a .long))
+    ∙ passed 2 _ (not-of-true (a .mark))
+    ∙ passed 3 _ (not-of-true (eq-eqb _ _ (a .version)))
+    ∙ passed 4 _ (a .inside)
+    ∙ passed 5 _ (a .few)
+    ∙ passed 6 _ (a .within)
+    ∙ passed 8 _ (le-ltb _ _ (a .whole))
+    ∙ passed 9 _ (a .nonzero)
+    ∙ passed 10 [] (le-ltb _ _ (a .enough))
+    ∙ none-left
+
 -- the tests that a table passed
 pub record TableAccepted (n : ℕ) (bytes : List ℕ) (room : ℕ) : Type 0 where
   pub inside : outside n ≡ false
@@ -80,6 +95,15 @@ table-accepted n bytes room h =
     let a8 = accepted 7 _ _ (a4 .1) in
     let a10 = accepted 9 _ _ (a8 .1) in
     record { inside = a4 .0; exact = eqb-true _ _ (not-false _ (a8 .0)); enough = ltb-false _ _ (a10 .0) }
+
+-- and a table that passes them is not refused
+pub table-passes : (n : ℕ) (bytes : List ℕ) (room : ℕ) → TableAccepted n bytes room → tableRefusal n bytes room ≡ 0
+unfolding tableRefusal tableTests
+table-passes n bytes room a =
+    passed 4 _ (a .inside)
+    ∙ passed 8 _ (not-of-true (eq-eqb _ _ (a .exact)))
+    ∙ passed 10 [] (le-ltb _ _ (a .enough))
+    ∙ none-left
 
 -- a refused heading gives the refusal's number alone and leaves the slice; another gives what it says and writes its
 -- rows

@@ -1,10 +1,10 @@
 -- The run file, as docs/RUNFILE.md lays it out: where each number stands in the bytes. All numbers are most
 -- significant byte first.
-use Prim.Native.Nat.{ℕ, zero, suc, _+_, _*_}
+use Prim.Native.Nat.{ℕ, zero, suc, _+_, _*_, _/_, _%_, _<_}
 use mathlib.Core.Bool.{Bool, cond, _&&_}
-use mathlib.Core.List.{List}
+use mathlib.Core.List.{List, [], _∷_, _++_}
 use lib.Dec.{eqb}
-use lib.ListN.{getD}
+use lib.ListN.{length, getD}
 use Rattle.sizes.specs.Sizes.{largestT}
 
 -- the number in so many bytes from a place on
@@ -12,9 +12,30 @@ unfoldable pub number : List ℕ → ℕ → ℕ → ℕ
 number bytes at zero = 0
 number bytes at (suc size) = number bytes at size * 256 + getD bytes (at + size) 0
 
+-- the bytes of a number, so many of them, most significant first
+unfoldable pub inBytes : ℕ → ℕ → List ℕ
+inBytes zero value = []
+inBytes (suc size) value = inBytes size (value / 256) ++ ((value % 256) ∷ [])
+
+-- the bytes of the first k rows, 8 of each
+unfoldable pub rowsInBytes : List ℕ → ℕ → List ℕ
+rowsInBytes rows zero = []
+rowsInBytes rows (suc k) = rowsInBytes rows k ++ inBytes 8 (getD rows k 0)
+
 -- the mark: H, N, B
+abbrev pub mark : List ℕ
+mark = 72 ∷ 78 ∷ 66 ∷ []
+
+-- the one version that there is
+abbrev pub theVersion : ℕ
+theVersion = 1
+
+-- do the bytes begin with the mark?
 unfoldable pub hasMark : List ℕ → Bool
-hasMark bytes = eqb (getD bytes 0 0) 72 && eqb (getD bytes 1 0) 78 && eqb (getD bytes 2 0) 66
+hasMark bytes =
+    eqb (getD bytes 0 0) (getD mark 0 0) &&
+    eqb (getD bytes 1 0) (getD mark 1 0) &&
+    eqb (getD bytes 2 0) (getD mark 2 0)
 
 -- version in 16 bits
 unfoldable pub versionOf : List ℕ → ℕ
@@ -51,3 +72,15 @@ headingRow = rowFrom 9
 -- row k of a table
 unfoldable pub tableRow : List ℕ → ℕ → ℕ
 tableRow = rowFrom 0
+
+-- each number of a list is below a bound
+abbrev pub Below : ℕ → List ℕ → Type 0
+Below bound xs = (k : ℕ) → k < length xs → getD xs k 0 < bound
+
+-- numbers of 8 bits
+abbrev pub AllBytes : List ℕ → Type 0
+AllBytes = Below 256
+
+-- numbers of 64 bits
+abbrev pub AllRows : List ℕ → Type 0
+AllRows = Below 18446744073709551616

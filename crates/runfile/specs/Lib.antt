@@ -1,3 +1,4 @@
 pub mod File
 pub mod Reply
+pub mod Write
 pub mod Inside

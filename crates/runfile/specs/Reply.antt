@@ -11,6 +11,7 @@ use Rattle.counting.specs.Refuse.Refusal.{refuse}
 use Rattle.sizes.specs.Sizes.{outside, tooMany, stray, soundZero, tableRows}
 use Rattle.runfile.specs.declared.Heading.{Heading}
 use Rattle.runfile.specs.File.{
+  theVersion,
   hasMark,
   versionOf,
   nOf,
@@ -28,7 +29,7 @@ unfoldable pub headingTests : List ℕ → ℕ → List Refusal
 headingTests bytes room =
     refuse 1 (ltb (length bytes) 9) ∷
     refuse 2 (not (hasMark bytes)) ∷
-    refuse 3 (not (eqb (versionOf bytes) 1)) ∷
+    refuse 3 (not (eqb (versionOf bytes) theVersion)) ∷
     refuse 4 (outside (nOf bytes)) ∷
     refuse 5 (not (eqb (tByte bytes) 255) && tooMany (nOf bytes) (tByte bytes)) ∷
     refuse 6 (stray (nOf bytes) (faultyOf bytes)) ∷

@@ -1,5 +1,11 @@
 // The run file: the heading reader, the table reader and the reader of a part of a table. All numbers stand most
-// significant byte first.
+// significant byte first. The writer is in write.rt.
+mod write;
+
+pub use write::Wrote;
+pub use write::write_heading;
+pub use write::write_row;
+pub use write::write_table;
 ghost use mathlib.Core.Path.{_≡_};
 ghost use mathlib.Core.List.{List};
 ghost use mathlib.Core.Bool.{false, not, _&&_};

@@ -1,0 +1,3 @@
+pub mod Say
+pub mod Told
+pub mod Inside
