@@ -51,6 +51,16 @@ size_t take(uint8_t *bytes, size_t count)
     return came;
 }
 
+/* Gives what has come, without waiting for all of the count; 0 where the input ends. For an input that was never read
+   by `take`, which reads ahead. */
+size_t take_some(uint8_t *bytes, size_t count)
+{
+    ssize_t came = read(fileno(input), bytes, count);
+    if (came < 0 && !is_closed())
+        fail("read", input_name);
+    return came < 0 ? 0 : (size_t)came;
+}
+
 void put_all(void)
 {
     if (fwrite(out, 1, out_used, stdout) != out_used || fflush(stdout) != 0)

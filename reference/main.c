@@ -53,7 +53,7 @@ static int tell_why(const struct made *made)
     return 1;
 }
 
-/* A text that is already wrong is read no further: it may be endless. */
+/* A text whose outcome is settled is read no further: it may be endless, or what follows may never come. */
 static int make_file(const char *name)
 {
     static uint8_t line[LENT_LINE], piece[PIECE_BYTES];
@@ -62,9 +62,9 @@ static int make_file(const char *name)
     size_t came;
     read_from(name);
     do {
-        came = take(piece, sizeof piece);
+        came = take_some(piece, sizeof piece);
         take_text(&maker, piece, came, &lent);
-    } while (came == sizeof piece && maker.refusal == 0 && maker.fault == 0);
+    } while (came > 0 && !is_settled(&maker, line, sizeof line));
     struct made made = end_text(maker, &lent);
     if (made.refusal != 0 || made.fault != 0)
         return tell_why(&made);

@@ -124,11 +124,17 @@ static void take_words(struct maker *maker, const struct ended *line, const stru
         take_say(maker, line, lent);
 }
 
+/* How many bytes of the line that has not ended stand in the lent line. */
+static size_t kept_bytes(const struct maker *maker, size_t length)
+{
+    return (size_t)at_most(maker->kept, length);
+}
+
 static void end_line(struct maker *maker, const struct lent *lent)
 {
     struct ended line;
     line.bytes = lent->line;
-    line.size = (size_t)at_most(maker->kept, lent->line_length);
+    line.size = kept_bytes(maker, lent->line_length);
     maker->lines = one_more(maker->lines);
     maker->kept = 0;
     if (line.size > 0 && line.bytes[0] == '#')
@@ -179,6 +185,14 @@ struct made end_text(struct maker maker, const struct lent *lent)
     if (maker.stage >= SETTLED)
         return (struct made){maker.refusal, maker.fault != 0 ? maker.lines : 0, maker.fault, 0};
     return end_unsettled(&maker, lent);
+}
+
+/* A line that is already too long stays so, whatever follows; only a comment may go on. */
+int is_settled(const struct maker *maker, const uint8_t *line, size_t length)
+{
+    if (maker->stage >= SETTLED)
+        return 1;
+    return kept_bytes(maker, length) > MOST_LINE && line[0] != '#';
 }
 
 /* A line without its numbers at the end: `line `, the number, `: ` and the sentence. */

@@ -162,11 +162,13 @@ enum refusal read_part(const uint8_t *bytes, size_t bytes_count, uint64_t from, 
 /* write.c */
 void put_big_endian(uint64_t number, uint8_t *bytes, size_t count);
 size_t heading_bytes(unsigned n);
+size_t table_begins(unsigned n, unsigned table);
 size_t file_bytes(unsigned n, unsigned t);
 enum refusal check_heading(const struct heading *heading, const uint64_t *rows, size_t count);
 enum refusal write_heading(const struct heading *heading, const uint64_t *rows, size_t count, uint8_t *slice,
                            size_t length, size_t *size);
 enum refusal write_table(unsigned n, const uint64_t *rows, size_t count, uint8_t *slice, size_t length, size_t *size);
+enum refusal write_row(uint64_t row, uint64_t place, uint8_t *slice, size_t length);
 
 /* lines.c */
 size_t decimal(uint64_t number, char *digits);
@@ -176,12 +178,13 @@ uint64_t write_line_at(uint8_t *slice, size_t length, uint64_t place, const stru
 /* text.c */
 enum refusal read_line(const uint8_t *bytes, size_t count, uint64_t *slice, size_t length, struct words *words);
 enum refusal say_place(unsigned n, unsigned t, const uint64_t *numbers, size_t count, struct place *place);
-enum refusal write_say(unsigned n, unsigned table, uint64_t place, uint64_t row, uint8_t *slice, size_t length,
+enum refusal write_say(unsigned n, unsigned table, size_t place, uint64_t row, uint8_t *slice, size_t length,
                        size_t *size);
 
 /* make.c */
 void take_text(struct maker *maker, const uint8_t *bytes, size_t count, const struct lent *lent);
 struct made end_text(struct maker maker, const struct lent *lent);
+int is_settled(const struct maker *maker, const uint8_t *line, size_t length);
 enum refusal tell(const struct made *made, uint8_t *slice, size_t length, size_t *size);
 
 /* show.c */
@@ -196,6 +199,7 @@ enum refusal outcome(const uint8_t *bytes, size_t count, struct state *state);
 /* inout.c */
 void read_from(const char *name);
 size_t take(uint8_t *bytes, size_t count);
+size_t take_some(uint8_t *bytes, size_t count);
 void put_bytes(const void *bytes, size_t count);
 void put_word(const char *word);
 void put_number(uint64_t number);

@@ -22,7 +22,7 @@ void fill_text(size_t length);
 void put_text(size_t length);
 
 /* textreplies.c, in the order of their kinds, which begin with 21. */
-enum { TEXT_REPLIES = 10 };
+enum { TEXT_REPLIES = 13 };
 extern int (*const TEXTS[TEXT_REPLIES])(void);
 
 #endif

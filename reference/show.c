@@ -42,6 +42,6 @@ enum refusal show_part(const uint8_t *bytes, size_t count, uint64_t part, uint8_
         shown->size = show_front(&heading, rows, slice, length);
     else if (part < shown->parts)
         shown->size = show_table(heading.n, (unsigned)part - 1,
-                                 bytes + heading_bytes(heading.n) + ROW_BYTES * table * (part - 1), slice, length);
+                                 bytes + table_begins(heading.n, (unsigned)part - 1), slice, length);
     return FINE;
 }

@@ -1,8 +1,6 @@
 /* The lines of a text: what stands in one, what a line `say` means, and the line `say` of a place. */
 #include "notebook.h"
 
-#include <string.h>
-
 enum { CARRIAGE_RETURN = 13 };
 
 /* The first place from `at` on where the spaces end, or where one stands. */
@@ -94,26 +92,13 @@ enum refusal say_place(unsigned n, unsigned t, const uint64_t *numbers, size_t c
     return FINE;
 }
 
-/* The last place of all. With one box its step is 2 to the power 64, more than a number here can hold, so that the
-   first words of the line come as one. */
-static enum refusal write_last(unsigned table, uint64_t row, uint8_t *slice, size_t length, size_t *size)
-{
-    char word[64] = "say ";
-    size_t used = 4 + decimal(table + 1, word + 4);
-    strcpy(word + used, " 18446744073709551616");
-    uint64_t numbers[] = {1, 1, 1, row};
-    struct line line = {(const uint8_t *)word, strlen(word), numbers, 4};
-    return write_line(slice, length, &line, size);
-}
-
-enum refusal write_say(unsigned n, unsigned table, uint64_t place, uint64_t row, uint8_t *slice, size_t length,
+/* Places behind the table have a line too. */
+enum refusal write_say(unsigned n, unsigned table, size_t place, uint64_t row, uint8_t *slice, size_t length,
                        size_t *size)
 {
     *size = 0;
     if (n < 1 || n > MOST_BOXES)
         return WRONG_N;
-    if (n == 1 && place == UINT64_MAX)
-        return write_last(table, row, slice, length, size);
     uint64_t first[] = {table + 1, 1, 1 + place / n, 1 + place % n, row};
     uint64_t q = place - n * n;
     uint64_t later[] = {table + 1, 2 + q / (n * n * n), 1 + q / (n * n) % n, 1 + q / n % n, 1 + q % n, row};

@@ -1,4 +1,4 @@
-/* The replies to the requests of kinds 21 to 30, about the writer and the text of run files. */
+/* The replies to the requests of kinds 21 to 33, about the writer and the text of run files. */
 #include "replies.h"
 
 enum { MAKER_BYTES = 23 };
@@ -67,7 +67,7 @@ static int reply_say(void)
 {
     uint64_t n, table, place, row, length;
     size_t size;
-    if (!take_number(1, &n) || !take_number(1, &table) || !take_number(8, &place) || !take_number(8, &row))
+    if (!take_number(1, &n) || !take_number(1, &table) || !take_number(2, &place) || !take_number(8, &row))
         return 0;
     if (!take_length(2, MOST_LENT, &length))
         return 0;
@@ -194,7 +194,37 @@ static int reply_maker(void)
     return 1;
 }
 
+static int reply_row(void)
+{
+    uint64_t row, place, length;
+    if (!take_number(8, &row) || !take_number(8, &place) || !take_length(2, MOST_LENT, &length))
+        return 0;
+    fill_text(length);
+    put_reply("row", write_row(row, place, text, length));
+    put_text(length);
+    return 1;
+}
+
+static int reply_begins(void)
+{
+    uint64_t n, table;
+    if (!take_number(1, &n) || !take_number(1, &table))
+        return 0;
+    put_reply("begins", table_begins((unsigned)n, (unsigned)table));
+    return 1;
+}
+
+static int reply_settled(void)
+{
+    struct maker maker;
+    uint64_t length;
+    if (!take_maker(&maker) || !take_length(2, MOST_LENT, &length) || take(line, length) != length)
+        return 0;
+    put_reply("settled", (uint64_t)is_settled(&maker, line, length));
+    return 1;
+}
+
 int (*const TEXTS[TEXT_REPLIES])(void) = {
     reply_headed, reply_tabled, reply_read, reply_place, reply_say, reply_taken, reply_ended, reply_told, reply_shown,
-    reply_maker
+    reply_maker, reply_row, reply_begins, reply_settled
 };

@@ -1,4 +1,4 @@
-/* The writer of run files: a heading and a table, each by itself. */
+/* The writer of run files: a heading, a table and a row, each by itself, and where they stand. */
 #include "notebook.h"
 
 #include <string.h>
@@ -17,9 +17,17 @@ size_t heading_bytes(unsigned n)
     return MARK_BYTES + (size_t)ROW_BYTES * n;
 }
 
+/* The first byte of a table, counted from 0. A run file has at most five tables, but any number has its place. */
+size_t table_begins(unsigned n, unsigned table)
+{
+    if (n < 1 || n > MOST_BOXES)
+        return 0;
+    return heading_bytes(n) + table * ROW_BYTES * table_rows(n);
+}
+
 size_t file_bytes(unsigned n, unsigned t)
 {
-    return heading_bytes(n) + (t + 1) * ROW_BYTES * table_rows(n);
+    return table_begins(n, t + 1);
 }
 
 /* All but the room in the slice. t is a real t here, so 255 is too large like any other. */
@@ -75,5 +83,14 @@ enum refusal write_table(unsigned n, const uint64_t *rows, size_t count, uint8_t
         return SLICE_TOO_SHORT;
     put_rows(rows, count, slice);
     *size = ROW_BYTES * count;
+    return FINE;
+}
+
+/* The sum of the place and the row's bytes may be larger than 64 bits hold, so the place is tested by itself. */
+enum refusal write_row(uint64_t row, uint64_t place, uint8_t *slice, size_t length)
+{
+    if (length < ROW_BYTES || place > length - ROW_BYTES)
+        return SLICE_TOO_SHORT;
+    put_big_endian(row, slice + place, ROW_BYTES);
     return FINE;
 }

@@ -1,4 +1,5 @@
-"""The calls of kinds 26 and 27 in docs/REQUESTS.md: a text that is taken in pieces, and its end.
+"""The calls of kinds 26, 27 and 33 in docs/REQUESTS.md: a text that is taken in pieces, its end, and whether it is
+settled before that.
 
 The maker before a request is what textrules.py has after the pieces before it, or one that no text gives.
 """
@@ -10,7 +11,7 @@ import saying
 from calls import Call, Request
 from further import MOST_LENT, lent_bytes, reply
 from runfiles import TOP, heading_bytes, largest_t
-from textrules import LENT_LINE, Maker, file_size, told
+from textrules import LENT_LINE, MOST_LINE, Maker, file_size, told
 
 CASE_S = (b"# case S: box 4 tells boxes 1 and 2 one row and box 3 another\nrun 4 1 8\nrows 10 20 30 0\n"
           b"say 1 1 4 1 20\nsay 1 1 4 2 20\nsay 1 1 4 3 99\nsay 1 2 4 1 4 20\nsay 1 2 4 2 4 99\nsay 1 3 4 2 4 20\n")
@@ -40,6 +41,22 @@ def ended(maker, line, length, about):
     return Request(data, about, None, reply("ended", *end, *file))
 
 
+def settled(maker, line, about):
+    """The request whether the outcome is settled. Where it is, a text that follows must not change it."""
+    data = bytes((33,)) + maker_bytes(maker) + struct.pack(">H", len(line)) + line
+    is_settled = maker.is_settled(line)
+    if is_settled and end_behind(maker, line, b"") != end_behind(maker, line, b"1\n#\nrun 1 0 0\nrows 5\n"):
+        raise AssertionError("a text changes an outcome that is settled")
+    return Request(data, about, None, reply("settled", int(is_settled)))
+
+
+def end_behind(maker, line, text):
+    """The end of a text that goes on with this."""
+    maker, line, file = Maker(**vars(maker)), bytearray(line), bytearray()
+    maker.take(text, line, file)
+    return maker.end(line, file)
+
+
 def settled_by(refusal, fault):
     return f"refusal {refusal}" if refusal else f"fault {fault}"
 
@@ -63,6 +80,15 @@ def count_ended(words):
     refusal, _, fault, size = (int(word) for word in words[1:5])
     name = settled_by(refusal, fault)
     return "a run file" if size else name if name in SETTLED else "another number"
+
+
+def count_settled(words, data):
+    """By the answer and by what gave it: the stage, or the unfinished line."""
+    kept, length = int.from_bytes(data[14:22], "big"), int.from_bytes(data[24:26], "big")
+    if data[1] >= 3:
+        return f"{words[1]}, stage 3 or above"
+    line = "short line" if min(kept, length) <= MOST_LINE else "long comment" if data[26] == 35 else "long line"
+    return f"{words[1]}, {line}"
 
 
 def small_text(rng):
@@ -121,6 +147,15 @@ class Ended(Drawn):
         return ended(maker, line, self.length, "")
 
 
+class Settled(Drawn):
+    @classmethod
+    def answers(cls):
+        return ["1, stage 3 or above", "1, long line", "0, long comment", "0, short line"]
+
+    def ask(self, maker, line):
+        return settled(maker, line, "")
+
+
 # Lines and makers that are put together without regard for each other.
 STOCK = (b"run 4 1 8", b"rows 10 20 30 0", b"rows 5", b"say 1 1 1 1 7", b"say 1 2 1 1 1 7", b"say 2 3 4 4 4 9", b"#",
          b"", b"say 1 1 5 1 7", b"say", b"x", b" ", b"run 1 0 0", b"rows", b"\r", b" 1")
@@ -144,6 +179,7 @@ def wild_requests(rng):
         text = b"\n".join(rng.choice(STOCK) for _ in range(rng.randrange(4))) + rng.choice((b"", b"\n"))
         length = rng.choice((0, 17, 41, 56, 57, 100, 2345, 2344, 2346))
         yield ended(maker, line, length, "end with a wild maker")
+        yield settled(maker, line, "settled with a wild maker")
         yield taken(maker, text, line, length, "piece with a wild maker")
 
 
@@ -165,6 +201,7 @@ def line_lengths():
                 for length in (1001, 1002, 1100):
                     maker, line = Maker(), bytearray(length)
                     yield taken(maker, text, line, 5, "line of about 1,000 bytes")
+                    yield settled(maker, line, "line of about 1,000 bytes")
                     yield ended(maker, line, 5, "line of about 1,000 bytes")
                     yield taken(maker, b"\nx", line, 5, "line of about 1,000 bytes")
 
@@ -182,6 +219,22 @@ def kept_and_lines():
             maker, line = Maker(lines=lines), bytearray(LENT_LINE)
             yield taken(maker, text, line, 41, "lines at an edge")
             yield ended(maker, line, 41, "lines at an edge")
+
+
+def settled_edges():
+    """Every stage, `kept` and length of the lent line about 1,000, with each way in which a line may begin. At a stage
+    below 3 a refusal or a fault that stands in the maker settles nothing."""
+    for stage in (0, 1, 2, 3, 4, 255):
+        for length in (0, 1, 999, 1000, 1001, 1002, 2000, MOST_LENT):
+            keeps = {0, 1, 255, 256, 999, 1000, 1001, 1002, length, length + 1, 2**8 + 1001, 2**16, 2**16 + 5, 2**32,
+                     2**32 + 1000, 2**32 + 1001, 2**63, TOP}
+            for kept in sorted(keeps):
+                for first in (b"#", b" #", b"x", b"\0"):
+                    maker = Maker(stage=stage, n=4, t=1, faulty=8, lines=kept, kept=kept)
+                    if stage < 3 and kept % 2:
+                        maker.refusal, maker.fault = 10, 5
+                    line = (first + b"1" * length)[:length]
+                    yield settled(maker, line, "whether it is settled, at an edge")
 
 
 def file_lengths():
@@ -233,6 +286,7 @@ def in_pieces(text, cuts, length, about):
     maker, line = Maker(), bytearray(LENT_LINE)
     for at, end in zip((0, *cuts), (*cuts, len(text))):
         yield taken(maker, text[at:end], line, length, about)
+        yield settled(maker, line, about)
     yield ended(maker, line, length, about)
 
 
@@ -294,6 +348,6 @@ def every_size(rng):
 
 
 def all_edges(rng):
-    for part in (line_lengths(), kept_and_lines(), file_lengths(), wrong_sizes(), wide_runs(), case_s_whole(),
-                 cut_texts(rng), damaged_texts(rng), every_size(rng), wild_requests(rng)):
+    for part in (line_lengths(), kept_and_lines(), settled_edges(), file_lengths(), wrong_sizes(), wide_runs(),
+                 case_s_whole(), cut_texts(rng), damaged_texts(rng), every_size(rng), wild_requests(rng)):
         yield from part

@@ -1,4 +1,4 @@
-"""Two small streams, of kinds 1 to 20 and of kinds 21 to 30: for each kind a request that passes, and one that is
+"""Two small streams, of kinds 1 to 20 and of kinds 21 to 33: for each kind a request that passes, and one that is
 refused.
 
 A call that refuses nothing gets one request with each of its answers. No run and no text have one request alone.
@@ -86,8 +86,8 @@ def writers_and_lines():
     yield struct.pack(">BBBB", 24, 4, 1, 6) + packed([1, 3, 4, 2, 4, 20]), 0
     yield struct.pack(">BBBB", 24, 4, 1, 5) + packed([1, 3, 4, 2, 20]), 0
     yield struct.pack(">BBBB", 24, 4, 2, 5) + packed([1, 1, 4, 2, 20]), 5
-    yield struct.pack(">BBBQQH", 25, 4, 0, 135, 20, 19), 0
-    yield struct.pack(">BBBQQH", 25, 4, 0, 135, 20, 16), 10
+    yield struct.pack(">BBBHQH", 25, 4, 0, 135, 20, 19), 0
+    yield struct.pack(">BBBHQH", 25, 4, 0, 135, 20, 16), 10
 
 
 def taken(maker, text, lent_line, length):
@@ -124,6 +124,18 @@ def told_and_shown():
     yield bytes((30,)), None
 
 
+def rows_and_ends():
+    """A row in a slice that it fills, and in one too short; where a table begins, and where none does; a settled text,
+    and one that may go on."""
+    yield struct.pack(">BQQH", 31, 2**32 + 7, 3, 11), 0
+    yield struct.pack(">BQQH", 31, 2**32 + 7, TOP - 3, 11), 10
+    yield bytes((32, 4, 2)), None
+    yield bytes((32, 14, 0)), None
+    for first in (b"y", b"#"):
+        maker = Maker(stage=1, n=1, lines=1, kept=LENT_LINE)
+        yield b"\41" + maker_bytes(maker) + struct.pack(">H", LENT_LINE) + first.ljust(LENT_LINE, b"."), None
+
+
 def requests_of(*parts):
     for part in parts:
         for data, refusal in part():
@@ -135,4 +147,4 @@ def all_requests():
 
 
 def text_requests():
-    return requests_of(writers_and_lines, makers_of_small, told_and_shown)
+    return requests_of(writers_and_lines, makers_of_small, told_and_shown, rows_and_ends)

@@ -46,6 +46,44 @@ WRITERS = (
      "if (length < ROW_BYTES * count)", "if (length <= ROW_BYTES * count)"),
 )
 
+ROWS = (
+    ("a row that fills the slice is refused", "write.c",
+     "place > length - ROW_BYTES)", "place >= length - ROW_BYTES)"),
+    ("a slice one byte too short takes a row", "write.c",
+     "if (length < ROW_BYTES || place > length - ROW_BYTES)",
+     "if (length + 1 < ROW_BYTES || place > length + 1 - ROW_BYTES)"),
+    ("the sum of a row's place and 8 wraps", "write.c",
+     "if (length < ROW_BYTES || place > length - ROW_BYTES)", "if (place + ROW_BYTES > length)"),
+    ("a row's place is taken in 32 bits", "write.c",
+     "    if (length < ROW_BYTES ||", "    place = (uint32_t)place;\n    if (length < ROW_BYTES ||"),
+    ("a row's place is taken in 16 bits", "write.c",
+     "    if (length < ROW_BYTES ||", "    place = (uint16_t)place;\n    if (length < ROW_BYTES ||"),
+    ("a row's place is counted in rows", "write.c",
+     "    put_big_endian(row, slice + place, ROW_BYTES);",
+     "    put_big_endian(row, slice + (ROW_BYTES * place + ROW_BYTES <= length ? ROW_BYTES * place : place), 8);"),
+    ("a row without room is written as far as it goes", "write.c",
+     "    if (length < ROW_BYTES || place > length - ROW_BYTES)\n",
+     "    for (uint64_t at = place; at < length && length - place < ROW_BYTES; at++)\n"
+     "        slice[at] = (uint8_t)(row >> 8 * (place + 7 - at));\n"
+     "    if (length < ROW_BYTES || place > length - ROW_BYTES)\n"),
+    ("the row writer clears the rest of the slice", "write.c",
+     "    put_big_endian(row, slice + place, ROW_BYTES);",
+     "    put_big_endian(row, slice + place, ROW_BYTES);\n"
+     "    memset(slice + place + ROW_BYTES, 0, length - place - ROW_BYTES);"),
+    ("fourteen boxes have tables that begin", "write.c",
+     "    if (n < 1 || n > MOST_BOXES)\n        return 0;\n",
+     "    if (n < 1 || n > MOST_BOXES + 1)\n        return 0;\n"),
+    ("no boxes have tables that begin", "write.c",
+     "    if (n < 1 || n > MOST_BOXES)\n        return 0;\n", "    if (n > MOST_BOXES)\n        return 0;\n"),
+    ("a table behind the fifth begins where the fifth ends", "write.c",
+     "heading_bytes(n) + table * ROW_BYTES", "heading_bytes(n) + (table < 5 ? table : 5) * ROW_BYTES"),
+    ("where a table begins is taken in 16 bits", "textreplies.c",
+     "put_reply(\"begins\", table_begins(", "put_reply(\"begins\", (uint16_t)table_begins("),
+    ("the first table begins behind thirteen rows", "textreplies.c",
+     "put_reply(\"begins\", table_begins((unsigned)n, (unsigned)table));",
+     "put_reply(\"begins\", table_begins((unsigned)n, (unsigned)table) + (n > 0 && n < 13 ? 8 * (13 - n) : 0));"),
+)
+
 LINES = (
     ("zeros in front are refused", "text.c",
      "    return count > 0;", "    return count > 0 && (count == 1 || digits[0] != '0');"),
@@ -104,8 +142,10 @@ PLACES = (
      "1 + q / n % n, 1 + q % n, row};", "1 + q % n, 1 + q / n % n, row};"),
     ("the last place of step 1 counts as step 2", "text.c",
      "    if (place < n * n)", "    if (place + 1 < n * n)"),
-    ("the step of the last place of all wraps", "text.c",
-     "if (n == 1 && place == UINT64_MAX)", "if (0)"),
+    ("a place behind the table has the table's last step", "text.c",
+     "table + 1, 2 + q / (n * n * n),", "table + 1, 2 + q / (n * n * n) % 2,"),
+    ("a place is signed in 16 bits", "text.c",
+     "    uint64_t q = place - n * n;", "    uint64_t q = (uint64_t)(int16_t)place - n * n;"),
     ("tables are counted from 0 in steps 2 and 3", "text.c",
      "uint64_t later[] = {table + 1,", "uint64_t later[] = {table,"),
 )
@@ -199,6 +239,36 @@ MAKER = (
      "sizeof SENTENCES[0] ? fault : 0];", "sizeof SENTENCES[0] ? fault : 5];"),
 )
 
+SETTLED = (
+    ("an unfinished line of 1,000 bytes is settled", "make.c",
+     "kept_bytes(maker, length) > MOST_LINE &&", "kept_bytes(maker, length) >= MOST_LINE &&"),
+    ("an unfinished line of 1,001 bytes is not settled", "make.c",
+     "kept_bytes(maker, length) > MOST_LINE &&", "kept_bytes(maker, length) > MOST_LINE + 1 &&"),
+    ("a long comment is settled", "make.c",
+     "> MOST_LINE && line[0] != '#';", "> MOST_LINE;"),
+    ("a long line with # in its second place is a comment", "make.c",
+     "> MOST_LINE && line[0] != '#';", "> MOST_LINE && line[0] != '#' && line[1] != '#';"),
+    ("no unfinished line is settled", "make.c",
+     "return kept_bytes(maker, length) > MOST_LINE && line[0] != '#';", "return 0;"),
+    ("stages above 3 are not settled", "make.c",
+     "    if (maker->stage >= SETTLED)\n        return 1;", "    if (maker->stage == SETTLED)\n        return 1;"),
+    ("stage 2 is settled", "make.c",
+     "    if (maker->stage >= SETTLED)\n        return 1;", "    if (maker->stage >= SAY_DUE)\n        return 1;"),
+    ("a fault settles at any stage", "make.c",
+     "    if (maker->stage >= SETTLED)\n        return 1;",
+     "    if (maker->stage >= SETTLED || maker->fault != 0)\n        return 1;"),
+    ("a settled stage needs a line that is no comment", "make.c",
+     "    if (maker->stage >= SETTLED)\n        return 1;",
+     "    if (maker->stage >= SETTLED)\n        return length == 0 || line[0] != '#';"),
+    ("kept counts where the lent line is shorter", "make.c",
+     "return kept_bytes(maker, length) > MOST_LINE &&", "return length > 0 && maker->kept > MOST_LINE &&"),
+    ("all of the lent line counts as unfinished", "make.c",
+     "return kept_bytes(maker, length) > MOST_LINE &&", "return length > MOST_LINE &&"),
+    ("kept is taken in 32 bits where it is asked whether it is settled", "make.c",
+     "return kept_bytes(maker, length) > MOST_LINE &&",
+     "return at_most((uint32_t)maker->kept, length) > MOST_LINE &&"),
+)
+
 SHOWER = (
     ("a t of 255 is shown as 255", "show.c",
      "        shown->size = show_front(", "        heading.t = bytes[6], shown->size = show_front("),
@@ -239,7 +309,11 @@ PROGRAMS = (
     ("what is wrong is told on standard output", "main.c",
      "fwrite(told, 1, size, stderr);", "fwrite(told, 1, size, stdout);"),
     ("a text has one piece", "main.c",
-     "while (came == sizeof piece &&", "while (0 &&"),
+     "while (came > 0 &&", "while (0 &&"),
+    ("make reads on until the line has ended", "main.c",
+     "!is_settled(&maker, line, sizeof line)", "maker.stage < 3"),
+    ("make waits for a whole piece", "main.c",
+     "came = take_some(piece,", "came = take(piece,"),
     ("a made file has a byte more", "main.c",
      "put_bytes(file, made.size);", "put_bytes(file, made.size + 1);"),
     ("no text has a line", "textreplies.c",
@@ -248,4 +322,4 @@ PROGRAMS = (
      "MOST_TABLE_LENT = 40000,", "MOST_TABLE_LENT = 40001,"),
 )
 
-TRIALS = WRITERS + LINES + PLACES + MAKER + SHOWER + PROGRAMS
+TRIALS = WRITERS + ROWS + LINES + PLACES + MAKER + SETTLED + SHOWER + PROGRAMS

@@ -1,4 +1,4 @@
-"""The rules of docs/TEXT.md and of kinds 21 to 30 in docs/REQUESTS.md, once more and in few lines.
+"""The rules of docs/TEXT.md and of kinds 21 to 33 in docs/REQUESTS.md, once more and in few lines.
 
 The tests hold both programs to what stands here. Speed does not matter, and everything is copied rather than shared.
 """
@@ -42,6 +42,18 @@ def sizes_refused(n, t):
 
 def file_size(n, t):
     return 9 + 8 * n + (t + 1) * 8 * table_rows(n)
+
+
+def table_begins(n, table):
+    """The first byte of a table, counted from 0, also of one that no run has."""
+    return 9 + 8 * n + 8 * table * table_rows(n) if 1 <= n <= MOST_BOXES else 0
+
+
+def row_written(row, place, slice_):
+    """Refusal, and the slice after it."""
+    if place + 8 > len(slice_):
+        return 10, slice_
+    return 0, [*slice_[:place], *row.to_bytes(8, "big"), *slice_[place + 8:]]
 
 
 def heading_refused(n, t, faulty, rows):
@@ -178,6 +190,11 @@ class Maker:
             self.settle(refusal=10)
         else:
             file[place:place + 8] = numbers[-1].to_bytes(8, "big")
+
+    def is_settled(self, line):
+        """Whether no text that follows can change the outcome."""
+        unfinished = bytes(line[:self.kept])
+        return self.stage >= 3 or (len(unfinished) > MOST_LINE and not unfinished.startswith(b"#"))
 
     def end(self, line, file):
         """Refusal, line, fault and size."""

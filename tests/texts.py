@@ -1,4 +1,4 @@
-"""The calls of kinds 21 to 25 and 28 to 30 in docs/REQUESTS.md, drawn from a seed, and their edges.
+"""The calls of kinds 21 to 25 and 28 to 32 in docs/REQUESTS.md, drawn from a seed, and their edges.
 
 The rules give the whole reply of each, so both programs are held to it.
 """
@@ -14,6 +14,7 @@ from runfiles import (DAMAGES, KINDS, OF_LENGTH, TOP, Run, Table, damage_choices
 from textrules import read_line, say_line, say_place
 
 MOST_TABLE_LENT = 40000
+LAST_PLACE = 2**16 - 1
 FRONT_ROOM, SAY_ROOM = 300, 40
 
 
@@ -108,6 +109,75 @@ def writer_edges(rng):
     full = [0x0102030405060708] * 4563
     yield asked(Tabled, "table in the longest slice", n=13, lent=MOST_TABLE_LENT, rows=full)
     yield asked(Tabled, "table with too many rows", n=13, lent=MOST_TABLE_LENT, rows=(full + full)[:MOST_LENT])
+
+
+class Row(Call):
+    """The writer of one row."""
+
+    damages = ((10, "break_10"),)
+
+    def __init__(self, rng):
+        self.row = some_number(rng)
+        self.place = rng.choice((0, 1, 8, rng.randrange(200), rng.randrange(MOST_LENT - 7)))
+        self.lent = about_lengths(rng, self.place + 8)
+
+    def break_10(self, rng):
+        """A slice that is too short, or a place that looks good in fewer bits."""
+        if rng.random() < 0.5:
+            self.lent = rng.choice((0, self.place, self.place + 7, self.place + 7, rng.randrange(self.place + 8)))
+        else:
+            self.place = rng.choice((self.place + rng.choice((2**16, 2**32, 2**63)), TOP - 8, TOP - 7, TOP))
+
+    def to_bytes(self):
+        return struct.pack(">BQQH", 31, self.row, self.place, self.lent)
+
+    def known(self):
+        refusal, slice_ = textrules.row_written(self.row, self.place, lent_bytes(self.lent))
+        return reply("row", refusal, *slice_)
+
+
+def row_edges(rng):
+    """Slices that the row fills, too short by 1 and longer by 1, and places up to the last that 64 bits hold."""
+    rows = 0, 1, 2**32, 2**63, TOP, 0x8090a0b0c0d0e0f0, rng.randrange(TOP)
+    for row in rows:
+        for place in (0, 1, 7, 8, 9, 255, 256, 257, 3000, MOST_LENT - 9, MOST_LENT - 8):
+            for lent in (place, place + 7, place + 8, min(place + 9, MOST_LENT)):
+                yield asked(Row, "edge of a row", row=row, place=place, lent=lent)
+    for place in range(20):
+        for lent in range(20):
+            yield asked(Row, "row in a short slice", row=0x8090a0b0c0d0e0f0, place=place, lent=lent)
+    wide = [2**power + by for power in (8, 16, 31, 32, 48, 63) for by in (-8, -1, 0, 1)]
+    for place in (MOST_LENT - 7, MOST_LENT, *wide, *(TOP - by for by in range(18)), TOP - MOST_LENT):
+        for lent in (0, 1, 7, 8, 9, 16, 300, MOST_LENT):
+            yield asked(Row, "row at a place far behind", row=rows[-1], place=place, lent=lent)
+
+
+class Begins(Call):
+    def __init__(self, rng):
+        self.n = rng.choice((rng.randrange(1, PLACES + 1), rng.randrange(256)))
+        self.table = rng.choice((rng.randrange(6), rng.randrange(256)))
+
+    @classmethod
+    def answers(cls):
+        return ["wrong n", *(f"for n = {n}" for n in range(1, PLACES + 1))]
+
+    def to_bytes(self):
+        return bytes((32, self.n, self.table))
+
+    def known(self):
+        return reply("begins", textrules.table_begins(self.n, self.table))
+
+
+def begins_edges():
+    """Every table for every n that has tables and those beside them, some tables for every other n; and for every n
+    and t the length of a whole run file."""
+    for n in range(256):
+        for table in range(256) if n <= PLACES + 1 else (0, 1, 2, 5, 127, 128, 254, 255):
+            yield asked(Begins, "where a table begins", n=n, table=table)
+    for n in range(1, PLACES + 1):
+        for t in range(largest_t(n) + 1):
+            length = len(silent_run(n, t, (), 5).to_bytes())
+            yield Request(bytes((32, n, t + 1)), "length of a whole run file", None, reply("begins", length))
 
 
 # The line reader.
@@ -274,7 +344,7 @@ class Say(Call):
 
     def __init__(self, rng):
         self.n, self.table = rng.randrange(1, PLACES + 1), rng.choice((0, 1, 4, 255, rng.randrange(256)))
-        self.place = rng.choice((rng.randrange(table_rows(self.n)), rng.randrange(self.n**2), rng.randrange(TOP)))
+        self.place = rng.choice((rng.randrange(table_rows(self.n)), rng.randrange(self.n**2), rng.randrange(2**16)))
         self.row = some_number(rng)
         self.lent = len(self.text()) + rng.choice((0, 0, 1, 30))
 
@@ -289,7 +359,7 @@ class Say(Call):
         self.n = wrong_n(rng)
 
     def to_bytes(self):
-        return struct.pack(">BBBQQH", 25, self.n, self.table, self.place, self.row, self.lent)
+        return struct.pack(">BBBHQH", 25, self.n, self.table, self.place, self.row, self.lent)
 
     def known(self):
         if not 1 <= self.n <= PLACES:
@@ -304,7 +374,8 @@ def say_edges():
     """The first and last place of each step for every n, places behind the table, and the slice's edges."""
     for n in range(1, PLACES + 1):
         steps = 0, n**2, n**2 + n**3, table_rows(n)
-        places = {at + by for at in steps for by in (-1, 0, 1)} | {2 * table_rows(n), 2**32, 2**63, TOP - 1, TOP}
+        places = {at + by for at in steps for by in (-1, 0, 1)} | {2 * table_rows(n), LAST_PLACE - 1, LAST_PLACE}
+        places |= {2**power + by for power in (8, 15) for by in (-1, 0)}
         for place in sorted(places - {-1}):
             size = len(say_line(n, 0, place, 0))
             for lent in (size - 1, size, size + 1):
@@ -493,6 +564,8 @@ class NoText(Call):
 
 def all_edges(rng):
     yield from writer_edges(rng)
+    yield from row_edges(rng)
+    yield from begins_edges()
     yield from read_edges(rng)
     yield from written_lines(rng)
     yield from place_edges()
@@ -526,4 +599,6 @@ def counted(words, data):
         return f"0, meant {words[2]}"
     if name == "shown" and number == "0":
         return "0, empty" if words[2] == "0" else "0, not empty"
+    if name == "begins":
+        return "wrong n" if number == "0" else f"for n = {data[1]}"
     return number
