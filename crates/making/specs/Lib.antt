@@ -1,2 +1,0 @@
-pub mod Make
-pub mod Text
