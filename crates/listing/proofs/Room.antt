@@ -91,12 +91,12 @@ number-below bytes at zero h = omega arith
 number-below bytes at (suc size) h =
     omega (arith, number-below bytes at size h, h (at + size), pow-suc 256 size)
 
-row-below : (at : ℕ) (bytes : List ℕ) (k : ℕ) → Below 256 bytes → rowFrom at bytes k < 2 ^ 64
+pub row-below : (at : ℕ) (bytes : List ℕ) (k : ℕ) → Below 256 bytes → rowFrom at bytes k < 2 ^ 64
 unfolding rowFrom
 row-below at bytes k h = number-below bytes _ 8 h
 
 -- the bytes of a table, which are some of the file's
-table-below : (n : ℕ) (bytes : List ℕ) (m : ℕ) → Below 256 bytes → Below 256 (bytesOf n bytes m)
+pub table-below : (n : ℕ) (bytes : List ℕ) (m : ℕ) → Below 256 bytes → Below 256 (bytesOf n bytes m)
 unfolding bytesOf
 table-below n bytes m h k =
     let rest = drop (tableBegins n m) bytes in
