@@ -158,7 +158,12 @@ fn take_head(bytes: &mut [u8], size: usize, limit: usize) -> Head
 fn print_heading(n: u8, t: u8, faulty: u16, rows: &[u64], lent: &mut [u8], text: &mut [u8]) {
     count_up_bytes(lent);
     let wrote = runfile::write_heading(n, t, faulty, rows, lent);
-    print_bytes(text, b"headed", &[wide(wrote.refusal), wrote.size as u64], lent);
+    print_bytes(
+        text,
+        b"headed",
+        &[wide(wrote.refusal), wrote.size as u64],
+        lent,
+    );
 }
 
 // The heading writer. Here and below: false where the request is cut short or asks for too much.
@@ -185,7 +190,12 @@ fn answer_heading(bytes: &mut [u8], rows: &mut [u64], lent: &mut [u8], text: &mu
 fn print_table(n: u8, rows: &[u64], lent: &mut [u8], text: &mut [u8]) {
     count_up_bytes(lent);
     let wrote = runfile::write_table(n, rows, lent);
-    print_bytes(text, b"tabled", &[wide(wrote.refusal), wrote.size as u64], lent);
+    print_bytes(
+        text,
+        b"tabled",
+        &[wide(wrote.refusal), wrote.size as u64],
+        lent,
+    );
 }
 
 // The table writer.
@@ -213,7 +223,11 @@ fn answer_table(bytes: &mut [u8], rows: &mut [u64], lent: &mut [u8], text: &mut 
 fn print_read(line: &[u8], numbers: &mut [u64], text: &mut [u8]) {
     count_up(numbers);
     let words = lines::read_line(line, numbers);
-    print_front(text, b"read", &[wide(words.refusal), words.word as u64, words.count as u64]);
+    print_front(
+        text,
+        b"read",
+        &[wide(words.refusal), words.word as u64, words.count as u64],
+    );
     inout::print_line(text, b"", numbers);
 }
 
@@ -251,7 +265,11 @@ fn answer_place(bytes: &mut [u8], rows: &mut [u64], text: &mut [u8]) -> bool
         return false;
     }
     let place = says::place_of(n, t, &rows[0..count]);
-    inout::print_line(text, b"place", &[wide(place.refusal), truth(place.meant), place.at as u64]);
+    inout::print_line(
+        text,
+        b"place",
+        &[wide(place.refusal), truth(place.meant), place.at as u64],
+    );
     true
 }
 
@@ -262,7 +280,12 @@ fn print_say(head: &[u8], lent: &mut [u8], text: &mut [u8])
     count_up_bytes(lent);
     let place = number2(head, 2) as u16;
     let written = says::write_say(head[0], head[1], place, number8(head, 4), lent);
-    print_bytes(text, b"say", &[wide(written.refusal), written.size as u64], lent);
+    print_bytes(
+        text,
+        b"say",
+        &[wide(written.refusal), written.size as u64],
+        lent,
+    );
 }
 
 // The line of a place.
@@ -283,7 +306,12 @@ fn print_told(head: &[u8], lent: &mut [u8], text: &mut [u8])
 {
     count_up_bytes(lent);
     let written = says::tell(head[0], number8(head, 1), head[9], lent);
-    print_bytes(text, b"told", &[wide(written.refusal), written.size as u64], lent);
+    print_bytes(
+        text,
+        b"told",
+        &[wide(written.refusal), written.size as u64],
+        lent,
+    );
 }
 
 // What is told.
@@ -357,7 +385,11 @@ fn answer_begins(bytes: &mut [u8], text: &mut [u8]) -> bool
     if !take(bytes, 2) {
         return false;
     }
-    inout::print_line(text, b"begins", &[listing::table_begins(bytes[0], bytes[1]) as u64]);
+    inout::print_line(
+        text,
+        b"begins",
+        &[listing::table_begins(bytes[0], bytes[1]) as u64],
+    );
     true
 }
 
