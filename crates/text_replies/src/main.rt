@@ -273,11 +273,10 @@ fn answer_place(bytes: &mut [u8], rows: &mut [u64], text: &mut [u8]) -> bool
     true
 }
 
-// Prints the reply of the line of a place, from the head of its request.
+// Prints the reply of the line of a place.
 fn print_say(head: &[u8], lent: &mut [u8], text: &mut [u8])
     requires { ⌜ 12 ≤ length (now head) ⌝ }
 {
-    count_up_bytes(lent);
     let place = number2(head, 2) as u16;
     let written = says::write_say(head[0], head[1], place, number8(head, 4), lent);
     print_bytes(
@@ -288,23 +287,10 @@ fn print_say(head: &[u8], lent: &mut [u8], text: &mut [u8])
     );
 }
 
-// The line of a place.
-fn answer_say(bytes: &mut [u8], lent: &mut [u8], text: &mut [u8]) -> bool
-    requires { ⌜ (length (now bytes) ≡ 200000) × (length (now lent) ≡ 200000) ⌝ }
-{
-    let head = take_head(bytes, 14, 5000);
-    let room = head.room;
-    if head.whole {
-        print_say(bytes, &mut lent[0..room], text);
-    }
-    head.whole
-}
-
-// Prints the reply of what is told, from the head of its request.
+// Prints the reply of what is told.
 fn print_told(head: &[u8], lent: &mut [u8], text: &mut [u8])
     requires { ⌜ 10 ≤ length (now head) ⌝ }
 {
-    count_up_bytes(lent);
     let written = says::tell(head[0], number8(head, 1), head[9], lent);
     print_bytes(
         text,
@@ -314,14 +300,34 @@ fn print_told(head: &[u8], lent: &mut [u8], text: &mut [u8])
     );
 }
 
-// What is told.
-fn answer_told(bytes: &mut [u8], lent: &mut [u8], text: &mut [u8]) -> bool
-    requires { ⌜ (length (now bytes) ≡ 200000) × (length (now lent) ≡ 200000) ⌝ }
+// Prints the row writer's reply.
+fn print_row(head: &[u8], lent: &mut [u8], text: &mut [u8])
+    requires { ⌜ 16 ≤ length (now head) ⌝ }
 {
-    let head = take_head(bytes, 12, 5000);
+    let refusal = runfile::write_row(number8(head, 0), number8(head, 8) as usize, lent);
+    print_bytes(text, b"row", &[wide(refusal)], lent);
+}
+
+// Prints the reply to a request that is a head and nothing more: kinds 25, 28 and 31.
+fn print_by_head(kind: u8, head: &[u8], lent: &mut [u8], text: &mut [u8])
+    requires { ⌜ 16 ≤ length (now head) ⌝ }
+{
+    count_up_bytes(lent);
+    match kind {
+        25 => print_say(head, lent, text),
+        28 => print_told(head, lent, text),
+        _ => print_row(head, lent, text),
+    }
+}
+
+// A request that is a head of so many bytes.
+fn answer_by_head(kind: u8, size: usize, bytes: &mut [u8], lent: &mut [u8], text: &mut [u8]) -> bool
+    requires { ⌜ (length (now bytes) ≡ 200000) × (length (now lent) ≡ 200000) × (2 ≤ size) × (size ≤ 18) ⌝ }
+{
+    let head = take_head(bytes, size, 5000);
     let room = head.room;
     if head.whole {
-        print_told(bytes, &mut lent[0..room], text);
+        print_by_head(kind, bytes, &mut lent[0..room], text);
     }
     head.whole
 }
@@ -357,27 +363,6 @@ fn answer_shown(bytes: &mut [u8], lent: &mut [u8], text: &mut [u8]) -> bool
     true
 }
 
-// Prints the row writer's reply, from the head of its request.
-fn print_row(head: &[u8], lent: &mut [u8], text: &mut [u8])
-    requires { ⌜ 16 ≤ length (now head) ⌝ }
-{
-    count_up_bytes(lent);
-    let refusal = runfile::write_row(number8(head, 0), number8(head, 8) as usize, lent);
-    print_bytes(text, b"row", &[wide(refusal)], lent);
-}
-
-// The row writer.
-fn answer_row(bytes: &mut [u8], lent: &mut [u8], text: &mut [u8]) -> bool
-    requires { ⌜ (length (now bytes) ≡ 200000) × (length (now lent) ≡ 200000) ⌝ }
-{
-    let head = take_head(bytes, 18, 5000);
-    let room = head.room;
-    if head.whole {
-        print_row(bytes, &mut lent[0..room], text);
-    }
-    head.whole
-}
-
 // Where a table begins.
 fn answer_begins(bytes: &mut [u8], text: &mut [u8]) -> bool
     requires { ⌜ length (now bytes) ≡ 200000 ⌝ }
@@ -400,15 +385,16 @@ fn answer(bytes: &mut [u8], rows: &mut [u64], lent: &mut [u8], text: &mut [u8]) 
     if !take(bytes, 1) {
         return false;
     }
-    match bytes[0] {
+    let kind = bytes[0];
+    match kind {
         21 => answer_heading(bytes, rows, lent, text),
         22 => answer_table(bytes, rows, lent, text),
         23 => answer_read(bytes, rows, text),
         24 => answer_place(bytes, rows, text),
-        25 => answer_say(bytes, lent, text),
-        28 => answer_told(bytes, lent, text),
+        25 => answer_by_head(kind, 14, bytes, lent, text),
+        28 => answer_by_head(kind, 12, bytes, lent, text),
         29 => answer_shown(bytes, lent, text),
-        31 => answer_row(bytes, lent, text),
+        31 => answer_by_head(kind, 18, bytes, lent, text),
         32 => answer_begins(bytes, text),
         _ => false,
     }
