@@ -51,6 +51,16 @@ size_t take(uint8_t *bytes, size_t count)
     return came;
 }
 
+/* Gives what has come, without waiting for all of the count; 0 where the input ends. For an input that was never read
+   by `take`, which reads ahead. */
+size_t take_some(uint8_t *bytes, size_t count)
+{
+    ssize_t came = read(fileno(input), bytes, count);
+    if (came < 0 && !is_closed())
+        fail("read", input_name);
+    return came < 0 ? 0 : (size_t)came;
+}
+
 void put_all(void)
 {
     if (fwrite(out, 1, out_used, stdout) != out_used || fflush(stdout) != 0)
@@ -58,13 +68,18 @@ void put_all(void)
     out_used = 0;
 }
 
-/* The count is at most what the buffer holds. */
 void put_bytes(const void *bytes, size_t count)
 {
-    if (count > OUT_BYTES - out_used)
-        put_all();
-    memcpy(out + out_used, bytes, count);
-    out_used += count;
+    const char *from = bytes;
+    while (count > 0) {
+        size_t piece = count < OUT_BYTES - out_used ? count : OUT_BYTES - out_used;
+        memcpy(out + out_used, from, piece);
+        out_used += piece;
+        from += piece;
+        count -= piece;
+        if (out_used == OUT_BYTES)
+            put_all();
+    }
 }
 
 void put_word(const char *word)

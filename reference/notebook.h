@@ -16,6 +16,16 @@ enum { MOST_DIGITS = 20 };
 /* Room for every listing: a first line of 14 bytes, 65 of 34 and a last one of 11 have 2,235. */
 enum { MOST_TEXT = 4096 };
 
+/* The text of a run file: the bytes of its longest line that is no comment, and what a lent line must have room for,
+   so that a longer one shows. */
+enum { MOST_LINE = 1000, LENT_LINE = MOST_LINE + 1 };
+
+/* Room for everything that is told: 27 bytes before the longest sentence, which has 82, and a newline. */
+enum { MOST_TOLD = 128 };
+
+/* What part 0 of a text that is shown may take, and what one row of a table may take. */
+enum { FRONT_ROOM = 300, SAY_ROOM = 40 };
+
 /* The number that each refusal carries. A call tests them in this order, except that a start tests 11 before 9. */
 enum refusal {
     FINE = 0,
@@ -85,6 +95,48 @@ struct listing {
     enum refusal ends;
 };
 
+/* What the line reader gives: the bytes of the word, and how many numbers follow; both 0 where it is no such line. */
+struct words {
+    size_t word_bytes;
+    size_t count;
+};
+
+/* Where in the file the row of a line `say` goes, and whether the line is understood. */
+struct place {
+    int meant;
+    size_t at;
+};
+
+/* What is known of a text so far. Stage 0, 1, 2: `run`, `rows`, `say` is due. From 3 on the outcome is settled. */
+struct maker {
+    uint8_t stage, n, t;
+    uint16_t faulty;
+    uint64_t lines, kept;
+    uint8_t refusal, fault;
+};
+
+/* What the maker writes to: the line that has not ended yet, and the run file. */
+struct lent {
+    uint8_t *line;
+    size_t line_length;
+    uint8_t *file;
+    size_t file_length;
+};
+
+/* The outcome of a whole text: a refusal, or a fault and its line, or the size of the run file. */
+struct made {
+    uint8_t refusal;
+    uint64_t line;
+    uint8_t fault;
+    size_t size;
+};
+
+/* One part of the text that is shown of a run file, and how many parts there are. */
+struct shown {
+    size_t size;
+    uint64_t parts;
+};
+
 /* rules.c */
 size_t table_rows(unsigned n);
 unsigned largest_t(unsigned n);
@@ -107,10 +159,37 @@ enum refusal read_table(uint8_t n, const uint8_t *bytes, size_t count, uint64_t 
 enum refusal read_part(const uint8_t *bytes, size_t bytes_count, uint64_t from, uint64_t count, uint64_t *slice,
                        size_t length);
 
+/* write.c */
+void put_big_endian(uint64_t number, uint8_t *bytes, size_t count);
+size_t heading_bytes(unsigned n);
+size_t table_begins(unsigned n, unsigned table);
+size_t file_bytes(unsigned n, unsigned t);
+enum refusal check_heading(const struct heading *heading, const uint64_t *rows, size_t count);
+enum refusal write_heading(const struct heading *heading, const uint64_t *rows, size_t count, uint8_t *slice,
+                           size_t length, size_t *size);
+enum refusal write_table(unsigned n, const uint64_t *rows, size_t count, uint8_t *slice, size_t length, size_t *size);
+enum refusal write_row(uint64_t row, uint64_t place, uint8_t *slice, size_t length);
+
 /* lines.c */
 size_t decimal(uint64_t number, char *digits);
 enum refusal write_line(uint8_t *slice, size_t length, const struct line *line, size_t *size);
 uint64_t write_line_at(uint8_t *slice, size_t length, uint64_t place, const struct line *line);
+
+/* text.c */
+enum refusal read_line(const uint8_t *bytes, size_t count, uint64_t *slice, size_t length, struct words *words);
+enum refusal say_place(unsigned n, unsigned t, const uint64_t *numbers, size_t count, struct place *place);
+enum refusal write_say(unsigned n, unsigned table, size_t place, uint64_t row, uint8_t *slice, size_t length,
+                       size_t *size);
+
+/* make.c */
+void take_text(struct maker *maker, const uint8_t *bytes, size_t count, const struct lent *lent);
+struct made end_text(struct maker maker, const struct lent *lent);
+int is_settled(const struct maker *maker, const uint8_t *line, size_t length);
+enum refusal tell(const struct made *made, uint8_t *slice, size_t length, size_t *size);
+
+/* show.c */
+enum refusal show_part(const uint8_t *bytes, size_t count, uint64_t part, uint8_t *slice, size_t length,
+                       struct shown *shown);
 
 /* listing.c */
 void list_file(const uint8_t *bytes, size_t count, struct listing *listing);
@@ -120,6 +199,7 @@ enum refusal outcome(const uint8_t *bytes, size_t count, struct state *state);
 /* inout.c */
 void read_from(const char *name);
 size_t take(uint8_t *bytes, size_t count);
+size_t take_some(uint8_t *bytes, size_t count);
 void put_bytes(const void *bytes, size_t count);
 void put_word(const char *word);
 void put_number(uint64_t number);

@@ -1,14 +1,13 @@
-/* The replies to a stream of requests, in the format of docs/REQUESTS.md. */
-#include "notebook.h"
+/* The replies to a stream of requests, in the format of docs/REQUESTS.md: the stream, and kinds 1 to 20. */
+#include "replies.h"
 
-enum { MOST_LENT = 5000, STATE_BYTES = 143, MOST_FILE_BYTES = 200000 };
+enum { STATE_BYTES = 143 };
 
-static uint8_t bytes[MOST_FILE_BYTES];
-static uint64_t rows[MOST_LENT];
-static uint8_t text[MOST_LENT];
+uint8_t bytes[MOST_FILE_BYTES];
+uint64_t rows[MOST_LENT];
+uint8_t text[MOST_FILE_BYTES];
 
-/* Every `take_` below gives 0 where the input is cut short; then no line is printed. */
-static int take_number(size_t count, uint64_t *number)
+int take_number(size_t count, uint64_t *number)
 {
     uint8_t piece[8];
     if (take(piece, count) != count)
@@ -17,19 +16,19 @@ static int take_number(size_t count, uint64_t *number)
     return 1;
 }
 
-static int take_bytes(uint64_t count)
+int take_bytes(uint64_t count)
 {
     return count <= sizeof bytes && take(bytes, count) == count;
 }
 
 /* A length that has a limit: longer ones end the program like a request that is cut short. */
-static int take_length(size_t count, uint64_t most, uint64_t *length)
+int take_length(size_t count, uint64_t most, uint64_t *length)
 {
     return take_number(count, length) && *length <= most;
 }
 
 /* The count is at most 5,000: each caller's length is one byte or is tested first. */
-static int take_rows(size_t count)
+int take_rows(size_t count)
 {
     if (!take_bytes(8 * count))
         return 0;
@@ -62,7 +61,7 @@ static int take_state(struct state *state)
     return take_boxes(state);
 }
 
-static void put_reply(const char *name, uint64_t number)
+void put_reply(const char *name, uint64_t number)
 {
     put_word(name);
     put_number(number);
@@ -81,26 +80,26 @@ static void put_state(const struct state *state)
         put_number(state->list[i]);
 }
 
-static void fill_lent(size_t length)
+void fill_lent(size_t length)
 {
     for (size_t i = 0; i < length; i++)
         rows[i] = i + 1;
 }
 
-static void put_lent(size_t length)
+void put_lent(size_t length)
 {
     for (size_t i = 0; i < length; i++)
         put_number(rows[i]);
 }
 
 /* A lent slice of bytes goes on with 0 after 255. */
-static void fill_text(size_t length)
+void fill_text(size_t length)
 {
     for (size_t i = 0; i < length; i++)
         text[i] = (uint8_t)(i + 1);
 }
 
-static void put_text(size_t length)
+void put_text(size_t length)
 {
     for (size_t i = 0; i < length; i++)
         put_number(text[i]);
@@ -360,9 +359,10 @@ static int (*const REPLIES[])(void) = {
 
 static int reply_to(uint64_t kind)
 {
-    if (kind < 1 || kind > sizeof REPLIES / sizeof REPLIES[0])
+    const uint64_t count = sizeof REPLIES / sizeof REPLIES[0];
+    if (kind < 1 || kind > count + TEXT_REPLIES)
         return 0;
-    return REPLIES[kind - 1]();
+    return kind <= count ? REPLIES[kind - 1]() : TEXTS[kind - 1 - count]();
 }
 
 void answer_requests(void)

@@ -1,9 +1,14 @@
-"""Requests from seeds, in the format of docs/REQUESTS.md: all calls, and the edges of kinds 1 to 7."""
+"""Requests from seeds, in the format of docs/REQUESTS.md: all calls, and the edges of kinds 1 to 7.
+
+One proved program answers kinds 1 to 20 and another one kinds 21 to 33, so a stream has kinds of one group alone.
+"""
 
 import struct
 
 import calls
 import further
+import makers
+import texts
 from calls import PLACES, Request, packed, state_bytes
 from runfiles import TOP, Table, heading_bytes, largest_t, table_rows
 
@@ -13,26 +18,31 @@ CALLS = {"vote": calls.Vote, "grade": calls.Grade, "choice": calls.Choice, "star
          "rows": further.Rows, "sizes": further.Sizes, "member": further.Member, "stray": further.Stray,
          "zero": further.Zero, "steps": further.Steps, "line": further.Line, "put": further.Put, "part": further.Part,
          "listing": further.Listing, "outcome": further.Outcome, "none": further.NoRun}
+TEXT_CALLS = {"headed": texts.Headed, "tabled": texts.Tabled, "read": texts.Read, "place": texts.Place,
+              "say": texts.Say, "taken": makers.Taken, "ended": makers.Ended, "told": texts.Told,
+              "shown": texts.Shown, "maker": texts.NoText, "row": texts.Row, "begins": texts.Begins,
+              "settled": makers.Settled}
+ALL = {**CALLS, **TEXT_CALLS}
 
 
 def broken(rng, name, damages):
     """A request with these damages done, the later one first: it may need a field that the earlier one spoils."""
-    arguments = CALLS[name](rng)
+    arguments = ALL[name](rng)
     for _, how in reversed(damages):
         getattr(arguments, how)(rng)
-    refusal = damages[0][0] if damages else 0 if CALLS[name].damages else None
+    refusal = damages[0][0] if damages else 0 if ALL[name].damages else None
     return Request(arguments.to_bytes(), about(name, damages), refusal, arguments.known())
 
 
 def about(name, damages):
-    if not CALLS[name].damages:
+    if not ALL[name].damages:
         return f"{name} as drawn"
     return f"{name} {' and '.join(str(number) for number, _ in damages) or 0}"
 
 
 def damage_choices(name):
     """Every damage of a call alone, and every two with different numbers."""
-    damages = CALLS[name].damages
+    damages = ALL[name].damages
     for at, one in enumerate(damages):
         yield (one,)
         for two in damages[at + 1:]:
@@ -77,13 +87,23 @@ OFTEN = ("vote", "grade", "grade", "choice", "choice", "start", "iteration", "it
          "table")
 FURTHER = ("largest", "rows", "sizes", "member", "stray", "zero", "steps", "steps", "steps", "line", "line", "put",
            "put", "part", "part", "listing", "outcome")
+TEXTS = ("headed", "headed", "tabled", "read", "read", "read", "place", "place", "say", "say", "taken", "taken",
+         "taken", "ended", "ended", "told", "shown", "shown", "row", "row", "begins", "settled", "settled")
 
 
 def any_request(rng):
     """One request at random: mostly good ones, and iterations above all."""
     if rng.random() < 0.1:
         return rng.choice((wild_iteration, wild_heading))(rng)
-    name = rng.choice(OFTEN if rng.random() < 0.7 else FURTHER)
+    return any_of(rng, OFTEN if rng.random() < 0.7 else FURTHER)
+
+
+def any_text_request(rng):
+    return any_of(rng, TEXTS)
+
+
+def any_of(rng, names):
+    name = rng.choice(names)
     damages = list(damage_choices(name)) or [()]
     return broken(rng, name, rng.choice(damages) if rng.random() < 0.25 else ())
 
@@ -196,15 +216,39 @@ def too_long():
     yield "file of an outcome too long", struct.pack(">BI", 19, 200001) + bytes(200001)
 
 
-def ended_streams(rng):
-    """Streams that end in the midst: after some good requests one that is cut, unknown, or too long."""
-    good = b"".join(broken(rng, name, ()).data for name in CALLS)
-    for kind in (0, 21, 22, 72, 255):
-        yield f"kind {kind}", good + bytes((kind,)) + good
-    for about, data in too_long():
-        yield about, good + data + good
-    for name in CALLS:
+def text_too_long():
+    """The same of kinds 21 to 33."""
+    maker = bytes(23)
+    yield "slice of a heading too long", struct.pack(">BBBHBH", 21, 1, 0, 0, 1, 5001) + bytes(8)
+    yield "table to be written too long", struct.pack(">BBHH", 22, 13, 5001, 9) + bytes(8 * 5001)
+    yield "slice of a table too long", struct.pack(">BBHH", 22, 1, 3, 40001) + bytes(24)
+    yield "line to be read too long", struct.pack(">BHH", 23, 5001, 1) + b"a" * 5001
+    yield "slice of numbers too long", struct.pack(">BHH", 23, 1, 5001) + b"a"
+    yield "slice of a line of a place too long", struct.pack(">BBBHQH", 25, 1, 0, 0, 0, 5001)
+    yield "text too long", b"\32" + maker + struct.pack(">HHH", 5001, 1, 1) + bytes(5002)
+    yield "lent line too long", b"\32" + maker + struct.pack(">HHH", 1, 5001, 1) + bytes(5002)
+    yield "lent file too long", b"\32" + maker + struct.pack(">HHH", 1, 1, 5001) + bytes(2)
+    yield "lent line at the end too long", b"\33" + maker + struct.pack(">HH", 5001, 1) + bytes(5001)
+    yield "lent file at the end too long", b"\33" + maker + struct.pack(">HH", 1, 5001) + bytes(1)
+    yield "slice of what is told too long", struct.pack(">BBQBH", 28, 1, 0, 0, 5001)
+    yield "slice of a part too long", struct.pack(">BQII", 29, 0, 200001, 1) + bytes(1)
+    yield "file of a part too long", struct.pack(">BQII", 29, 0, 1, 200001) + bytes(200001)
+    yield "slice of a row too long", struct.pack(">BQQH", 31, 7, 0, 5001)
+    yield "lent line that may be settled too long", b"\41" + maker + struct.pack(">H", 5001) + bytes(5001)
+
+
+def bad_ends(rng, group, too_long_ones):
+    """How a stream may end: with a request that is unknown or too long and good ones behind it, with one that is cut,
+    or as it should. None of this has a reply."""
+    good = b"".join(broken(rng, name, ()).data for name in group)
+    for kind in (0, 34, 35, 72, 255):
+        yield f"kind {kind}", bytes((kind,)) + good
+    for about, data in too_long_ones:
+        yield about, data + good
+    longer = [name for name in group if name not in ("none", "maker")]
+    for name in longer:
+        yield f"{name} without its last byte", broken(rng, name, ()).data[:-1]
+    for name in rng.sample(longer, 5):
         data = broken(rng, name, ()).data
-        for keep in sorted({1, 2, rng.randrange(1, len(data) + 1), len(data) - 1} & set(range(1, len(data)))):
-            yield f"{name} cut", good + data[:keep]
+        yield f"{name} cut", data[:rng.choice((1, rng.randrange(1, len(data))))]
     yield "nothing", b""

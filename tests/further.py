@@ -25,11 +25,11 @@ def lent_rows(length):
 
 
 def lent_bytes(length):
-    return [(place + 1) % 256 for place in range(length)]
+    return list((bytes(range(1, 256)) + b"\0") * (length // 256 + 1))[:length]
 
 
 def reply(name, *numbers):
-    return " ".join(str(number) for number in (name, *numbers))
+    return " ".join(map(str, (name, *numbers)))
 
 
 # The constants and the tests.

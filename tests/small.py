@@ -1,6 +1,7 @@
-"""A small stream with all kinds of request: for each kind one that passes, and one that is refused.
+"""Two small streams, of kinds 1 to 20 and of kinds 21 to 33: for each kind a request that passes, and one that is
+refused.
 
-A call that refuses nothing gets one request with each of its answers. No run has one request alone.
+A call that refuses nothing gets one request with each of its answers. No run and no text have one request alone.
 """
 
 import struct
@@ -8,7 +9,9 @@ import struct
 from calls import Request, packed, state_bytes
 from edges import silent_run
 from further import steps_bytes
-from runfiles import Table, heading_bytes
+from makers import CASE_S, maker_bytes
+from runfiles import TOP, Table, heading_bytes
+from textrules import LENT_LINE, Maker
 
 
 def single_box():
@@ -73,7 +76,75 @@ def files():
     yield bytes((20,)), None
 
 
-def all_requests():
-    for part in (first_seven, constants_and_tests, steps_and_text, files):
+def writers_and_lines():
+    yield struct.pack(">BBBHBH", 21, 3, 0, 4, 3, 35) + packed([5, 6, 0]), 0
+    yield struct.pack(">BBBHBH", 21, 3, 0, 4, 2, 35) + packed([5, 0]), 11
+    yield struct.pack(">BBHH", 22, 1, 3, 25) + packed([10, 2**32, TOP]), 0
+    yield struct.pack(">BBHH", 22, 1, 3, 23) + packed([10, 2**32, TOP]), 10
+    for line, length, refusal in ((b"run  4 01 8 \r", 4, 0), (b"run 4 1 8", 2, 10), (b" run 4 1 8", 2, 0)):
+        yield struct.pack(">BHH", 23, len(line), length) + line, refusal
+    yield struct.pack(">BBBB", 24, 4, 1, 6) + packed([1, 3, 4, 2, 4, 20]), 0
+    yield struct.pack(">BBBB", 24, 4, 1, 5) + packed([1, 3, 4, 2, 20]), 0
+    yield struct.pack(">BBBB", 24, 4, 2, 5) + packed([1, 1, 4, 2, 20]), 5
+    yield struct.pack(">BBBHQH", 25, 4, 0, 135, 20, 19), 0
+    yield struct.pack(">BBBHQH", 25, 4, 0, 135, 20, 16), 10
+
+
+def taken(maker, text, lent_line, length):
+    return b"\32" + maker_bytes(maker) + struct.pack(">HHH", len(text), len(lent_line), length) + text + lent_line
+
+
+def ended(maker, lent_line, length):
+    return b"\33" + maker_bytes(maker) + struct.pack(">HH", len(lent_line), length) + lent_line
+
+
+def makers_of_small():
+    """A text with one box, whole and cut; one that is refused, and one that is not understood."""
+    empty = bytes(LENT_LINE)
+    yield taken(Maker(), b"run 1 0 0\nrows 5\nsay 1 2 1 1 1 7\n", empty, 43), None
+    yield taken(Maker(), b"run 1 0 0\nrows 5\nsay 1 2 1", empty, 41), None
+    yield taken(Maker(), b"run 2 0 0\nrows 5 0\nsay", empty, 185), None
+    yield taken(Maker(), b"# one box\nrun 1 0\nrows 5\n", empty, 41), None
+    rest = b"say 1 2 1 1 1 7"
+    yield ended(Maker(stage=2, n=1, lines=2, kept=len(rest)), rest.ljust(LENT_LINE, b"."), 43), 0
+    yield ended(Maker(stage=1, n=1, lines=1), empty, 5), 0
+    yield ended(Maker(stage=2, n=1, lines=2), empty, 40), 10
+
+
+def told_and_shown():
+    yield struct.pack(">BBQBH", 28, 0, 12, 2, 60), 0
+    yield struct.pack(">BBQBH", 28, 11, 12, 2, 12), 0
+    yield struct.pack(">BBQBH", 28, 11, 12, 2, 10), 10
+    data = single_box()[:-8] + packed([7])
+    yield struct.pack(">BQII", 29, 0, 300, len(data)) + data, 0
+    yield struct.pack(">BQII", 29, 1, 120, len(data)) + data, 0
+    yield struct.pack(">BQII", 29, 1, 119, len(data)) + data, 10
+    yield struct.pack(">BQII", 29, 0, 300, len(data) - 1) + data[:-1], 8
+    yield taken(Maker(), CASE_S, bytes(LENT_LINE), 2345), None
+    yield bytes((30,)), None
+
+
+def rows_and_ends():
+    """A row in a slice that it fills, and in one too short; where a table begins, and where none does; a settled text,
+    and one that may go on."""
+    yield struct.pack(">BQQH", 31, 2**32 + 7, 3, 11), 0
+    yield struct.pack(">BQQH", 31, 2**32 + 7, TOP - 3, 11), 10
+    yield bytes((32, 4, 2)), None
+    yield bytes((32, 14, 0)), None
+    for first in (b"y", b"#"):
+        maker = Maker(stage=1, n=1, lines=1, kept=LENT_LINE)
+        yield b"\41" + maker_bytes(maker) + struct.pack(">H", LENT_LINE) + first.ljust(LENT_LINE, b"."), None
+
+
+def requests_of(*parts):
+    for part in parts:
         for data, refusal in part():
             yield Request(data, "small stream", refusal)
+
+
+def all_requests():
+    return requests_of(first_seven, constants_and_tests, steps_and_text, files)
+
+
+def text_requests():
+    return requests_of(writers_and_lines, makers_of_small, told_and_shown, rows_and_ends)

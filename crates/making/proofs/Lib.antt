@@ -1,0 +1,5 @@
+-- What belongs to no one function.
+pub mod Stages
+pub mod Files
+pub mod Short
+pub mod Pieces
