@@ -2,6 +2,7 @@
 // function that writes a run file, reads a line, or turns a text into a file or a file into a text, on any numbers and
 // any bytes, and prints every field of its reply and every place of what was lent to it. The rows of a request are
 // read by `runfile::read_part`, which `replies` tries.
+use making::Maker;
 ghost use mathlib.Core.Path.{_≡_};
 ghost use Prim.Native.Nat.{_+_, _*_, _≤_, _<_};
 ghost use lib.ListN.{length};
@@ -363,6 +364,139 @@ fn answer_shown(bytes: &mut [u8], lent: &mut [u8], text: &mut [u8]) -> bool
     true
 }
 
+// The maker in the first 23 bytes.
+fn maker(bytes: &[u8]) -> Maker
+    requires { ⌜ 23 ≤ length (now bytes) ⌝ }
+{
+    Maker {
+        stage: bytes[0],
+        n: bytes[1],
+        t: bytes[2],
+        faulty: number2(bytes, 3) as u16,
+        lines: number8(bytes, 5),
+        kept: number8(bytes, 13) as usize,
+        refusal: bytes[21],
+        fault: bytes[22],
+    }
+}
+
+// The numbers of a maker.
+fn maker_numbers(maker: Maker) -> [u64; 8] {
+    [
+        wide(maker.stage),
+        wide(maker.n),
+        wide(maker.t),
+        maker.faulty as u64,
+        maker.lines,
+        maker.kept as u64,
+        wide(maker.refusal),
+        wide(maker.fault),
+    ]
+}
+
+// Prints the reply of a text that is taken, with both lent slices behind it.
+fn print_taken(maker: Maker, taken: &[u8], line: &mut [u8], lent: &mut [u8], text: &mut [u8]) {
+    count_up_bytes(lent);
+    let numbers = maker_numbers(making::take(maker, taken, line, lent));
+    print_front(text, b"taken", &numbers);
+    print_places(text, line);
+    print_places(text, lent);
+    io::write_all(libc::STDOUT_FILENO, b"\n");
+}
+
+// A text that is taken.
+fn answer_taken(bytes: &mut [u8], lent: &mut [u8], text: &mut [u8]) -> bool
+    requires { ⌜ (length (now bytes) ≡ 200000) × (length (now lent) ≡ 200000) ⌝ }
+{
+    let head = take_head(bytes, 29, 5000);
+    let room = head.room;
+    let maker = maker(bytes);
+    let size = number2(bytes, 23) as usize;
+    let kept = number2(bytes, 25) as usize;
+    let mut line = [0u8; 5000];
+    if !head.whole {
+        return false;
+    }
+    if 5000 < size {
+        return false;
+    }
+    if 5000 < kept {
+        return false;
+    }
+    if !take(bytes, size) {
+        return false;
+    }
+    if !take(&mut line, kept) {
+        return false;
+    }
+    print_taken(
+        maker,
+        &bytes[0..size],
+        &mut line[0..kept],
+        &mut lent[0..room],
+        text,
+    );
+    true
+}
+
+// Prints the reply of a text that is ended.
+fn print_ended(maker: Maker, line: &[u8], lent: &mut [u8], text: &mut [u8]) {
+    count_up_bytes(lent);
+    let made = making::finish(maker, line, lent);
+    let reply = [
+        wide(made.refusal),
+        made.line,
+        wide(made.fault),
+        made.size as u64,
+    ];
+    print_bytes(text, b"ended", &reply, lent);
+}
+
+// A text that is ended.
+fn answer_ended(bytes: &mut [u8], lent: &mut [u8], text: &mut [u8]) -> bool
+    requires { ⌜ (length (now bytes) ≡ 200000) × (length (now lent) ≡ 200000) ⌝ }
+{
+    let head = take_head(bytes, 27, 5000);
+    let room = head.room;
+    let maker = maker(bytes);
+    let size = number2(bytes, 23) as usize;
+    if !head.whole {
+        return false;
+    }
+    if 5000 < size {
+        return false;
+    }
+    if !take(bytes, size) {
+        return false;
+    }
+    print_ended(maker, &bytes[0..size], &mut lent[0..room], text);
+    true
+}
+
+// Whether a text is settled.
+fn answer_settled(bytes: &mut [u8], text: &mut [u8]) -> bool
+    requires { ⌜ length (now bytes) ≡ 200000 ⌝ }
+{
+    let head = take_head(bytes, 25, 5000);
+    let room = head.room;
+    let maker = maker(bytes);
+    if !head.whole {
+        return false;
+    }
+    if !take(bytes, room) {
+        return false;
+    }
+    let settled = making::is_settled(maker, &bytes[0..room]);
+    inout::print_line(text, b"settled", &[truth(settled)]);
+    true
+}
+
+// The maker that stands where there is no text.
+fn answer_no_text(text: &mut [u8]) -> bool {
+    inout::print_line(text, b"maker", &maker_numbers(making::no_text()));
+    true
+}
+
 // Where a table begins.
 fn answer_begins(bytes: &mut [u8], text: &mut [u8]) -> bool
     requires { ⌜ length (now bytes) ≡ 200000 ⌝ }
@@ -392,10 +526,14 @@ fn answer(bytes: &mut [u8], rows: &mut [u64], lent: &mut [u8], text: &mut [u8]) 
         23 => answer_read(bytes, rows, text),
         24 => answer_place(bytes, rows, text),
         25 => answer_by_head(kind, 14, bytes, lent, text),
+        26 => answer_taken(bytes, lent, text),
+        27 => answer_ended(bytes, lent, text),
         28 => answer_by_head(kind, 12, bytes, lent, text),
         29 => answer_shown(bytes, lent, text),
+        30 => answer_no_text(text),
         31 => answer_by_head(kind, 18, bytes, lent, text),
         32 => answer_begins(bytes, text),
+        33 => answer_settled(bytes, text),
         _ => false,
     }
 }
