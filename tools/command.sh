@@ -1,5 +1,6 @@
 # What the commands at the root share. Each reads this in after it has set `top`, the repository's folder, and
-# `called`, its own name. Whatever fails here is one line on standard error and status 2.
+# `called`, its own name, and then sets `help`, which --help prints. Whatever fails here is one line on standard error
+# and status 2.
 # shellcheck shell=sh
 # shellcheck disable=SC2034,SC2154
 
@@ -11,6 +12,11 @@ true 3>&2 || exec 2>/dev/null
 
 fail() {
     printf '%s: %s\n' "$called" "$1" >&2
+    exit 2
+}
+
+wrong_usage() {
+    echo "usage: $called [FILE] | $called --help" >&2
     exit 2
 }
 
@@ -33,6 +39,23 @@ check_streams() {
     { true 3<&0; } 2>/dev/null || exec </dev/null
     [ ! -d /dev/stdin ] || fail "cannot read $(shown "$1"): it is a folder"
     { true 3>&1; } 2>/dev/null || fail "cannot write to standard output: it is closed"
+}
+
+# take_arguments ARGUMENT..: those of the command, all of which have the same ones. From here on standard input is what
+# is to be read.
+take_arguments() {
+    case ${1-} in
+    --help)
+        [ $# -eq 1 ] || wrong_usage
+        print_text "$help"
+        exit 0
+        ;;
+    --) shift ;;
+    -*) wrong_usage ;;
+    esac
+    [ $# -le 1 ] || wrong_usage
+    [ $# -eq 0 ] || open_input "$1"
+    check_streams "${1-standard input}"
 }
 
 # keep_text NAME: runs the program crates/NAME and keeps what it prints in `text`, and in `last` its last line, which
@@ -65,4 +88,44 @@ keep_text() {
 print_text() {
     trap '' PIPE
     printf '%s' "$1" 2>/dev/null || fail "cannot write to standard output"
+}
+
+# pass_output NAME: runs the program crates/NAME, whose standard output may be long or no text and so goes straight to
+# the command's own, and ends as the program says on standard error: it says nothing where all is well, and otherwise one
+# line. That is kept in `said`, by way of descriptor 4, with a mark behind it as above. Descriptor 3 is the command's
+# standard output, and 5 its standard error, where run-program tells what keeps the program from running.
+pass_output() {
+    {
+        said=$(
+            exec 4>&1 >&3 3>&- 5>&2 2>/dev/null
+            (exec "$top/tools/run-program" "$1" said 2>&5 5>&-)
+            status=$?
+            printf . >&4
+            exit "$status"
+        )
+        status=$?
+    } 3>&1
+    said=${said%.}
+    case $status in
+    0) ;;
+    2 | 126 | 127)
+        # It could not be started, and the reason is told already where run-program knew it.
+        [ -z "$said" ] || fail "the program cannot be started"
+        exit 2
+        ;;
+    *) fail "the program ended with status $status" ;;
+    esac
+    case $said in
+    '') exit 0 ;;
+    "cannot write to standard output$newline") fail "cannot write to standard output" ;;
+    esac
+    last=${said%"$newline"}
+    case $last in
+    "$said" | *"$newline"*) ;; # it is not one whole line
+    "refused "* | "line "*": "*)
+        printf '%s\n' "$last" >&2
+        exit 1
+        ;;
+    esac
+    fail "the program gave no outcome"
 }

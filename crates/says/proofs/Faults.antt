@@ -1,12 +1,14 @@
 -- A text written to the front of a slice, and the two parts of the line of a fault: `line` with its number, which is
 -- put together apart and has at most 25 bytes, and the sentence behind it. Assumes nothing.
 use mathlib.Core.Path.{_≡_, refl, sym, ap, _∙_}
+use mathlib.Core.Bool.{Bool, true, false}
 use mathlib.Core.List.{List, [], _∷_, _++_, append-assoc}
 use Prim.Native.Nat.{ℕ, _+_, _-_, _^_, _≤_, _<_}
 use native.Mathlib.Omega.{arith}
+use lib.Dec.{ltb}
 use lib.ListN.{length, take, drop, length-append}
 use lib.Seq.{take-at}
-use borrow.Author.Tests.{lt-ltb, le-ltb}
+use borrow.Author.Tests.{lt-ltb, le-ltb, ltb-false}
 use Rattle.counting.proofs.Bools.{cond-true, cond-false}
 use Rattle.lines.specs.declared.Written.{Written}
 use Rattle.lines.specs.Line.{field, fields, lineOf, placed, tooShort, lineReply, lineWrites}
@@ -27,6 +29,15 @@ module _ (text : List ℕ) where
   text-given room size e h =
       ap {B = Written} (λ (k : ℕ). record { refusal = 0; size = k }) e
       ∙ sym (cond-false _ _ (le-ltb room (length text) (omega arith)))
+
+  -- what is written lies within the slice
+  pub text-within : (room : ℕ) → textReply text room .size ≤ room
+  unfolding textReply
+  text-within room = go (ltb room (length text)) refl
+    where
+      go : (b : Bool) → ltb room (length text) ≡ b → textReply text room .size ≤ room
+      go true e = rw e (omega arith)
+      go false e = rw e (ltb-false _ _ e)
 
   pub text-leaves : (slice : List ℕ) → length slice < length text → slice ≡ textWrites text slice
   unfolding textWrites

@@ -61,6 +61,7 @@ use Rattle.showing.proofs.Laws.{
   refused-early,
   refused-short,
   refused-none,
+  none-refused-of,
   show-refused,
   show-given,
 }
@@ -145,6 +146,22 @@ show-number bytes part room = go (ℕ-discrete (showRefusal bytes part room) 0)
     go : Dec (showRefusal bytes part room ≡ 0) → showReply bytes part room .refusal ≡ showRefusal bytes part room
     go (yes z) = sym (ap (λ (r : Shown). r .refusal) (show-given bytes part room z)) ∙ sym z
     go (no d) = sym (ap (λ (r : Shown). r .refusal) (show-refused bytes part room d))
+
+-- what is written lies within the slice
+pub show-within : (bytes : List ℕ) (part room : ℕ) → ((i : ℕ) → getD bytes i 0 < 256) →
+    showReply bytes part room .size ≤ room
+show-within bytes part room small = go (ℕ-discrete (showRefusal bytes part room) 0)
+  where
+    go : Dec (showRefusal bytes part room ≡ 0) → showReply bytes part room .size ≤ room
+    go (yes z) =
+        let both = none-refused-of bytes part room z in
+        omega (
+          arith,
+          ap (λ (r : Shown). r .size) (show-given bytes part room z),
+          part-short bytes (both .0) small part,
+          both .1,
+        )
+    go (no d) = omega (arith, ap (λ (r : Shown). r .size) (show-refused bytes part room d))
 
 -- no part of a good file is held against more than 182,520 bytes
 room-most : (bytes : List ℕ) → endsWith bytes ≡ 0 → (part : ℕ) → partRoom bytes part ≤ 182520
