@@ -13,7 +13,7 @@ use lib.Seq.{take-take}
 use Rattle.lines.specs.declared.Written.{Written}
 use Rattle.lines.specs.declared.Words.{Words}
 use Rattle.lines.specs.Line.{lineOf, placed, lineReply, lineWrites}
-use Rattle.lines.specs.Read.{readReply, readWrites, Readable}
+use Rattle.lines.specs.Read.{readReply, readWrites, PlainLine}
 use Rattle.lines.proofs.Lines.{line-refused, line-given}
 use Rattle.lines.proofs.Laws.{line-front}
 use Rattle.lines.proofs.ReadBack.{whole, back-reply, back-writes, back-word, unended}
@@ -64,7 +64,7 @@ written-is {out} {word} {numbers} {w} {written} c e =
     ∙ unended word numbers
 
 pub read-back : {out word numbers written slice last : List ℕ} {w : Written} {r : Words} →
-    WriteCall out word numbers w written → w .refusal ≡ 0 → Readable word numbers →
+    WriteCall out word numbers w written → w .refusal ≡ 0 → PlainLine word numbers →
     ReadCall (take (w .size - 1) written) slice r last → length numbers ≤ length slice →
     (r ≡ record { refusal = 0; word = length word; count = length numbers })
     × ((last ≡ placed slice 0 numbers) × (take (r .word) (take (w .size - 1) written) ≡ word))

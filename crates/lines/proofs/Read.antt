@@ -24,7 +24,7 @@ use Rattle.lines.specs.Read.{
   isLine,
   values,
   numbersIn,
-  tooMany,
+  noPlace,
   readReply,
   readWrites,
 }
@@ -53,23 +53,23 @@ module _ (line : List ℕ) (t : isLine (bare line) ≡ true) where
   -- a line with more numbers than there is room
   pub read-refused : (room : ℕ) → room < length (numbersIn (bare line)) →
       readReply line room ≡ record { refusal = 10; word = 0; count = 0 }
-  unfolding readReply tooMany
+  unfolding readReply noPlace
   read-refused room l = cond-true _ _ t ∙ cond-true _ _ (lt-ltb room (length (numbersIn (bare line))) l)
 
   pub read-stays : (slice : List ℕ) → length slice < length (numbersIn (bare line)) → readWrites line slice ≡ slice
-  unfolding readWrites tooMany
+  unfolding readWrites noPlace
   read-stays slice l = cond-true _ _ t ∙ cond-true _ _ (lt-ltb (length slice) (length (numbersIn (bare line))) l)
 
   -- a line that is taken
   pub read-given : (room : ℕ) → length (numbersIn (bare line)) ≤ room →
       readReply line room ≡
       record { refusal = 0; word = length (wordIn (bare line)); count = length (numbersIn (bare line)) }
-  unfolding readReply tooMany
+  unfolding readReply noPlace
   read-given room l = cond-true _ _ t ∙ cond-false _ _ (le-ltb room (length (numbersIn (bare line))) l)
 
   pub read-written : (slice : List ℕ) → length (numbersIn (bare line)) ≤ length slice →
       readWrites line slice ≡ placed slice 0 (numbersIn (bare line))
-  unfolding readWrites tooMany
+  unfolding readWrites noPlace
   read-written slice l =
       cond-true _ _ t ∙ cond-false _ _ (le-ltb (length slice) (length (numbersIn (bare line))) l)
 
@@ -101,7 +101,7 @@ module _ (line slice : List ℕ) where
       P (record { refusal = 0; word = length (wordIn (bare line)); count = length (numbersIn (bare line)) })
       (placed slice 0 (numbersIn (bare line)))) →
       P (readReply line (length slice)) (readWrites line slice)
-  unfolding readReply readWrites tooMany
+  unfolding readReply readWrites noPlace
   read-cases P nothing refused given =
       go (isLine (bare line)) (ltb (length slice) (length (numbersIn (bare line)))) refl refl
     where

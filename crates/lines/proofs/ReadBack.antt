@@ -17,7 +17,7 @@ use Rattle.lines.specs.Read.{
   bare,
   piece,
   behind,
-  filled,
+  nonEmpty,
   wordIn,
   saidIn,
   isDigit,
@@ -30,7 +30,7 @@ use Rattle.lines.specs.Read.{
   numbersIn,
   readReply,
   readWrites,
-  Readable,
+  PlainLine,
 }
 use Rattle.lines.proofs.Decimal.{decimal-some}
 use Rattle.lines.proofs.Lines.{line-length}
@@ -76,8 +76,8 @@ behind-then (byte ∷ text) rest = go (eqb byte 32) (piece-then text rest) (behi
     go false p h = h
 
 filled-then : (texts : List (List ℕ)) (text : List ℕ) → 0 < length text →
-    filled (texts ++ (text ∷ [])) ≡ filled texts ++ (text ∷ [])
-unfolding filled
+    nonEmpty (texts ++ (text ∷ [])) ≡ nonEmpty texts ++ (text ∷ [])
+unfolding nonEmpty
 filled-then [] [] l = absurd (omega (arith, l))
 filled-then [] (byte ∷ text) l = refl
 filled-then ([] ∷ texts) text l = filled-then texts text l
@@ -121,7 +121,7 @@ decimal-spaceless n k l e = omega (arith, e, decimal-digits n k l .0)
 said-then : (text : List ℕ) (n : ℕ) → saidIn (text ++ field n) ≡ saidIn text ++ (decimal n ∷ [])
 unfolding saidIn field
 said-then text n =
-    ap filled
+    ap nonEmpty
     (behind-then text (decimal n)
     ∙ ap₂ (λ (t : List ℕ) (ts : List (List ℕ)). behind text ++ (t ∷ ts))
     (piece-whole (decimal n) (decimal-spaceless n))
@@ -165,7 +165,7 @@ module _ (word numbers : List ℕ) where
       ∙ getD-append-add before (32 ∷ digits) (suc (length digits - 1)) 0 in
       omega (arith, decimal-digits (getD numbers k 0) (length digits - 1) (omega arith) .0)
 
-  module _ (h : Readable word numbers) where
+  module _ (h : PlainLine word numbers) where
     word-spoken : (k : ℕ) → wordIn (spoken word numbers k) ≡ word
     unfolding wordIn field
     word-spoken zero = ap piece none-yet ∙ piece-whole word (h .spaceless)
@@ -175,8 +175,8 @@ module _ (word numbers : List ℕ) where
         ∙ word-spoken k
 
     said-none : saidIn (spoken word numbers 0) ≡ []
-    unfolding saidIn filled
-    said-none = ap (λ (text : List ℕ). filled (behind text)) none-yet ∙ ap filled (behind-none word (h .spaceless))
+    unfolding saidIn nonEmpty
+    said-none = ap (λ (text : List ℕ). nonEmpty (behind text)) none-yet ∙ ap nonEmpty (behind-none word (h .spaceless))
 
     good-spoken : (k : ℕ) → k ≤ length numbers → areNumbers (saidIn (spoken word numbers k)) ≡ true
     unfolding areNumbers

@@ -14,7 +14,7 @@ use Rattle.lines.specs.Line.{readOn}
 use Rattle.lines.specs.Read.{
   piece,
   behind,
-  filled,
+  nonEmpty,
   wordIn,
   saidIn,
   isDigits,
@@ -28,22 +28,22 @@ use Rattle.lines.proofs.Pieces.{piece-within, piece-past, behind-past, 
 
 -- whether the texts that are not empty are numbers, and what they stand for, by the first of the texts
 are-turn : (text : List ℕ) (texts : List (List ℕ)) →
-    areNumbers (filled (text ∷ texts)) ≡ (isSmall text && areNumbers (filled texts))
-unfolding filled areNumbers isNumber isSmall isDigits readOn
+    areNumbers (nonEmpty (text ∷ texts)) ≡ (isSmall text && areNumbers (nonEmpty texts))
+unfolding nonEmpty areNumbers isNumber isSmall isDigits readOn
 are-turn [] texts = refl
 are-turn (byte ∷ text) texts =
-    ap (λ (b : Bool). (b && isSmall (byte ∷ text)) && areNumbers (filled texts))
+    ap (λ (b : Bool). (b && isSmall (byte ∷ text)) && areNumbers (nonEmpty texts))
     (lt-ltb 0 (suc (length text)) (omega arith))
 
 values-none : (text : List ℕ) (texts : List (List ℕ)) → length text ≡ 0 →
-    values (filled (text ∷ texts)) ≡ values (filled texts)
-unfolding filled
+    values (nonEmpty (text ∷ texts)) ≡ values (nonEmpty texts)
+unfolding nonEmpty
 values-none [] texts e = refl
 values-none (byte ∷ text) texts e = absurd (omega (arith, e))
 
 values-some : (text : List ℕ) (texts : List (List ℕ)) → 0 < length text →
-    values (filled (text ∷ texts)) ≡ readOn 0 text ∷ values (filled texts)
-unfolding filled values
+    values (nonEmpty (text ∷ texts)) ≡ readOn 0 text ∷ values (nonEmpty texts)
+unfolding nonEmpty values
 values-some [] texts l = absurd (omega (arith, l))
 values-some (byte ∷ text) texts l = refl
 
@@ -62,8 +62,8 @@ pub record Reached (text : List ℕ) (at count : ℕ) : Type 0 where
   pub space : piece (drop at text) ≡ []
   pub few : count ≤ at
   pub some : count ≤ length (numbersIn text)
-  pub left : drop count (numbersIn text) ≡ values (filled (behind (drop at text)))
-  pub good : areNumbers (saidIn text) ≡ areNumbers (filled (behind (drop at text)))
+  pub left : drop count (numbersIn text) ≡ values (nonEmpty (behind (drop at text)))
+  pub good : areNumbers (saidIn text) ≡ areNumbers (nonEmpty (behind (drop at text)))
 
 pub walk-begins : (text : List ℕ) (at : ℕ) → at ≡ length (wordIn text) → Reached text at 0
 unfolding wordIn saidIn numbersIn
@@ -74,8 +74,8 @@ walk-begins text at e =
       space = ap (λ (k : ℕ). piece (drop k text)) e ∙ piece-past text;
       few = omega arith;
       some = omega arith;
-      left = ap (λ (texts : List (List ℕ)). values (filled texts)) (sym past);
-      good = ap (λ (texts : List (List ℕ)). areNumbers (filled texts)) (sym past);
+      left = ap (λ (texts : List (List ℕ)). values (nonEmpty texts)) (sym past);
+      good = ap (λ (texts : List (List ℕ)). areNumbers (nonEmpty texts)) (sym past);
     }
 
 -- the piece behind the space at a place
@@ -93,9 +93,9 @@ module _ (text : List ℕ) (at count : ℕ) (r : Reached text at count) where
         ∙ ap behind (drop-drop (length (part text at)) (at + 1) text ∙ ap (λ (k : ℕ). drop k text) (sym e)))
 
     walk-good : (next : ℕ) → next ≡ at + 1 + length (part text at) →
-        areNumbers (saidIn text) ≡ (isSmall (part text at) && areNumbers (filled (behind (drop next text))))
+        areNumbers (saidIn text) ≡ (isSmall (part text at) && areNumbers (nonEmpty (behind (drop next text))))
     walk-good next e =
-        r .good ∙ ap (λ (texts : List (List ℕ)). areNumbers (filled texts)) (walk-on next e)
+        r .good ∙ ap (λ (texts : List (List ℕ)). areNumbers (nonEmpty texts)) (walk-on next e)
         ∙ are-turn (part text at) (behind (drop next text))
 
     -- a piece that is no number decides
@@ -114,11 +114,11 @@ module _ (text : List ℕ) (at count : ℕ) (r : Reached text at count) where
           ap piece (ap (λ (k : ℕ). drop k text) e ∙ sym (drop-drop (length (part text at)) (at + 1) text))
           ∙ piece-past (drop (at + 1) text)
 
-      walk-left : drop count (numbersIn text) ≡ values (filled (part text at ∷ behind (drop next text)))
-      walk-left = r .left ∙ ap (λ (texts : List (List ℕ)). values (filled texts)) (walk-on next e)
+      walk-left : drop count (numbersIn text) ≡ values (nonEmpty (part text at ∷ behind (drop next text)))
+      walk-left = r .left ∙ ap (λ (texts : List (List ℕ)). values (nonEmpty texts)) (walk-on next e)
 
-      walk-still : areNumbers (saidIn text) ≡ areNumbers (filled (behind (drop next text)))
-      walk-still = walk-good next e ∙ ap (λ (b : Bool). b && areNumbers (filled (behind (drop next text)))) t
+      walk-still : areNumbers (saidIn text) ≡ areNumbers (nonEmpty (behind (drop next text)))
+      walk-still = walk-good next e ∙ ap (λ (b : Bool). b && areNumbers (nonEmpty (behind (drop next text)))) t
 
       -- two spaces stand side by side, or one at the end
       pub walk-skips : next ≤ at + 1 → Reached text next count
@@ -135,9 +135,9 @@ module _ (text : List ℕ) (at count : ℕ) (r : Reached text at count) where
       -- a number stands between
       module _ (h : at + 1 < next) where
         passed : (count < length (numbersIn text)) × ((getD (numbersIn text) count 0 ≡ readOn 0 (part text at))
-            × (drop (count + 1) (numbersIn text) ≡ values (filled (behind (drop next text)))))
+            × (drop (count + 1) (numbersIn text) ≡ values (nonEmpty (behind (drop next text)))))
         passed =
-            drop-next (numbersIn text) (values (filled (behind (drop next text)))) count (readOn 0 (part text at))
+            drop-next (numbersIn text) (values (nonEmpty (behind (drop next text)))) count (readOn 0 (part text at))
             (walk-left ∙ values-some (part text at) (behind (drop next text)) (omega (arith, e, h)))
 
         pub walk-one : count < length (numbersIn text)
@@ -164,15 +164,15 @@ module _ (text : List ℕ) (at count : ℕ) (r : Reached text at count) where
     none = ap behind (drop-of-length-le text {i = at} h)
 
     pub walk-all : count ≡ length (numbersIn text)
-    unfolding filled values
+    unfolding nonEmpty values
     walk-all =
         omega (
           arith,
           r .some,
           length-drop count (numbersIn text),
-          ap length (r .left ∙ ap (λ (texts : List (List ℕ)). values (filled texts)) none),
+          ap length (r .left ∙ ap (λ (texts : List (List ℕ)). values (nonEmpty texts)) none),
         )
 
     pub walk-ends : areNumbers (saidIn text) ≡ true
-    unfolding filled areNumbers
-    walk-ends = r .good ∙ ap (λ (texts : List (List ℕ)). areNumbers (filled texts)) none
+    unfolding nonEmpty areNumbers
+    walk-ends = r .good ∙ ap (λ (texts : List (List ℕ)). areNumbers (nonEmpty texts)) none

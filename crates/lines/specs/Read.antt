@@ -24,10 +24,10 @@ behind [] = []
 behind (byte ∷ text) = cond (eqb byte 32) (piece text ∷ behind text) (behind text)
 
 -- those of the texts that are not empty
-unfoldable pub filled : List (List ℕ) → List (List ℕ)
-filled [] = []
-filled ([] ∷ texts) = filled texts
-filled ((byte ∷ text) ∷ texts) = (byte ∷ text) ∷ filled texts
+unfoldable pub nonEmpty : List (List ℕ) → List (List ℕ)
+nonEmpty [] = []
+nonEmpty ([] ∷ texts) = nonEmpty texts
+nonEmpty ((byte ∷ text) ∷ texts) = (byte ∷ text) ∷ nonEmpty texts
 
 -- the word of a text
 unfoldable pub wordIn : List ℕ → List ℕ
@@ -35,7 +35,7 @@ wordIn text = piece text
 
 -- the texts of its numbers
 unfoldable pub saidIn : List ℕ → List (List ℕ)
-saidIn text = filled (behind text)
+saidIn text = nonEmpty (behind text)
 
 -- a digit is a byte from 48 to 57
 unfoldable pub isDigit : ℕ → Bool
@@ -71,15 +71,15 @@ unfoldable pub numbersIn : List ℕ → List ℕ
 numbersIn text = values (saidIn text)
 
 -- refusal 10: the slice to be written has fewer places than the text has numbers; `room` is its length
-unfoldable pub tooMany : List ℕ → ℕ → Bool
-tooMany text room = ltb room (length (numbersIn text))
+unfoldable pub noPlace : List ℕ → ℕ → Bool
+noPlace text room = ltb room (length (numbersIn text))
 
 -- the reply: the length of the word and how many numbers there are; 0 for both where the line is no word and numbers,
 -- or where the call is refused
 unfoldable pub readReply : List ℕ → ℕ → Words
 readReply line room =
     cond (isLine (bare line))
-    (cond (tooMany (bare line) room)
+    (cond (noPlace (bare line) room)
     (record { refusal = 10; word = 0; count = 0 })
     (record { refusal = 0; word = length (wordIn (bare line)); count = length (numbersIn (bare line)) }))
     (record { refusal = 0; word = 0; count = 0 })
@@ -89,12 +89,12 @@ readReply line room =
 unfoldable pub readWrites : List ℕ → List ℕ → List ℕ
 readWrites line slice =
     cond (isLine (bare line))
-    (cond (tooMany (bare line) (length slice)) slice (placed slice 0 (numbersIn (bare line))))
+    (cond (noPlace (bare line) (length slice)) slice (placed slice 0 (numbersIn (bare line))))
     slice
 
 -- a word and numbers that are read back as they were written: the word is not empty and has no space in it, nor a
 -- carriage return at its end where no number follows, and the numbers are less than 2⁶⁴
-pub record Readable (word numbers : List ℕ) : Type 0 where
+pub record PlainLine (word numbers : List ℕ) : Type 0 where
   pub some : 0 < length word
   pub spaceless : (k : ℕ) → k < length word → getD word k 0 ≡ 32 → ⊥
   pub returnless : getD word (length word - 1) 0 ≡ 13 → 0 < length numbers

@@ -11,7 +11,7 @@ use Rattle.counting.proofs.Bools.{either, cond-true, cond-false, and-left}
 use borrow.Author.Tests.{ltb-true}
 use mathlib.Core.Logic.{⊎-elim}
 use Rattle.lines.specs.declared.Words.{Words}
-use Rattle.lines.specs.Read.{bare, piece, behind, filled, values, saidIn, wordIn, isLine, areNumbers, numbersIn, readReply, readWrites}
+use Rattle.lines.specs.Read.{bare, piece, behind, nonEmpty, values, saidIn, wordIn, isLine, areNumbers, numbersIn, readReply, readWrites}
 use Rattle.lines.proofs.Read.{read-nothing, read-given, read-front}
 
 behind-few : (text : List ℕ) → length (behind text) ≤ length text
@@ -24,8 +24,8 @@ behind-few (byte ∷ text) = go (eqb byte 32) refl (behind-few text)
     go true e h = omega (arith, ap length (cond-true (piece text ∷ behind text) (behind text) e), h)
     go false e h = omega (arith, ap length (cond-false (piece text ∷ behind text) (behind text) e), h)
 
-filled-few : (texts : List (List ℕ)) → length (filled texts) ≤ length texts
-unfolding filled
+filled-few : (texts : List (List ℕ)) → length (nonEmpty texts) ≤ length texts
+unfolding nonEmpty
 filled-few [] = omega arith
 filled-few ([] ∷ texts) = omega (arith, filled-few texts)
 filled-few ((byte ∷ text) ∷ texts) = omega (arith, filled-few texts)
@@ -49,7 +49,7 @@ unfolding numbersIn saidIn
 numbers-few line =
     omega (
       arith,
-      values-many (filled (behind (bare line))),
+      values-many (nonEmpty (behind (bare line))),
       filled-few (behind (bare line)),
       behind-few (bare line),
       bare-short line,

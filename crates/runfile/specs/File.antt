@@ -74,13 +74,13 @@ unfoldable pub tableRow : List ℕ → ℕ → ℕ
 tableRow = rowFrom 0
 
 -- each number of a list is below a bound
-abbrev pub Below : ℕ → List ℕ → Type 0
-Below bound xs = (k : ℕ) → k < length xs → getD xs k 0 < bound
+abbrev pub AllBelow : ℕ → List ℕ → Type 0
+AllBelow bound xs = (k : ℕ) → k < length xs → getD xs k 0 < bound
 
 -- numbers of 8 bits
 abbrev pub AllBytes : List ℕ → Type 0
-AllBytes = Below 256
+AllBytes = AllBelow 256
 
 -- numbers of 64 bits
 abbrev pub AllRows : List ℕ → Type 0
-AllRows = Below 18446744073709551616
+AllRows = AllBelow 18446744073709551616

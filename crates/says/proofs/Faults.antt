@@ -58,40 +58,40 @@ unfolding lineWrites tooShort textWrites
 line-kept word numbers slice = refl
 
 -- `line` and the number: the line of a fault without its sentence
-abbrev pub front : ℕ → List ℕ
-front line = line-word ++ field line
+abbrev pub lineStart : ℕ → List ℕ
+lineStart line = line-word ++ field line
 
-pub front-short : (line : ℕ) → line < 2 ^ 64 → length (front line) ≤ 25
+pub front-short : (line : ℕ) → line < 2 ^ 64 → length (lineStart line) ≤ 25
 unfolding field
 front-short line h = omega (arith, decimal-20 line h)
 
-front-line : (line : ℕ) → lineOf line-word (line ∷ []) ≡ front line ++ (10 ∷ [])
+front-line : (line : ℕ) → lineOf line-word (line ∷ []) ≡ lineStart line ++ (10 ∷ [])
 unfolding lineOf fields
 front-line line = refl
 
 -- as a line of its own, in 26 bytes, it has one byte more
 module _ (line : ℕ) (h : line < 2 ^ 64) where
-  fits : length (lineOf line-word (line ∷ [])) ≡ length (front line) + 1
-  fits = ap length (front-line line) ∙ length-append (front line) (10 ∷ [])
+  fits : length (lineOf line-word (line ∷ [])) ≡ length (lineStart line) + 1
+  fits = ap length (front-line line) ∙ length-append (lineStart line) (10 ∷ [])
 
-  pub front-size : (r : Written) → r ≡ lineReply line-word (line ∷ []) 26 → r .size ≡ length (front line) + 1
+  pub front-size : (r : Written) → r ≡ lineReply line-word (line ∷ []) 26 → r .size ≡ length (lineStart line) + 1
   front-size r e =
       ap (λ (w : Written). w .size)
       (e ∙ sym (line-given line-word (line ∷ []) 26 (omega (arith, fits, front-short line h))))
       ∙ fits
 
   pub front-text : (slice last : List ℕ) → length slice ≡ 26 → last ≡ lineWrites line-word (line ∷ []) slice →
-      take (length (front line)) last ≡ front line
+      take (length (lineStart line)) last ≡ lineStart line
   unfolding placed
   front-text slice last room w =
-      let k = length (front line) in
+      let k = length (lineStart line) in
       let rest = drop (0 + length (lineOf line-word (line ∷ []))) slice in
       ap (take k)
       (w
       ∙ line-written line-word (line ∷ []) slice (omega (arith, fits, front-short line h))
       ∙ ap (λ (text : List ℕ). text ++ rest) (front-line line)
-      ∙ append-assoc (front line) (10 ∷ []) rest)
-      ∙ take-at (front line) ((10 ∷ []) ++ rest) k refl
+      ∙ append-assoc (lineStart line) (10 ∷ []) rest)
+      ∙ take-at (lineStart line) ((10 ∷ []) ++ rest) k refl
 
 -- the two parts, written one behind the other, are the text
 pub parts-written : (out one two start said text : List ℕ) (end : ℕ) → end ≡ length start → start ++ said ≡ text →

@@ -31,7 +31,7 @@ use Rattle.says.specs.Told.{
 use Rattle.says.specs.Inside.{Among}
 use Rattle.says.proofs.Laws.{meant-five, meant-six, meant-of}
 use Rattle.says.proofs.Places.{line-of-place}
-use Rattle.says.proofs.Faults.{front, front-short}
+use Rattle.says.proofs.Faults.{lineStart, front-short}
 
 -- a line that is understood, where the largest t is 4
 module _ (n t : ℕ) (numbers : List ℕ) (meant : isMeant n t numbers ≡ true) (few : n ≤ 13) (largest : t ≤ 4)
@@ -120,7 +120,7 @@ told-short refusal line fault hr hl =
     rw (none, some)
     (omega (
       arith,
-      length-append (front line) (sentence fault),
+      length-append (lineStart line) (sentence fault),
       front-short line hl,
       sentence-short fault,
     )))

@@ -9,7 +9,7 @@ use lib.ListN.{length, take, length-append, length-drop}
 use Rattle.lines.proofs.Placed.{rest-whole}
 use Rattle.says.specs.Told.{faultLine}
 use Rattle.says.proofs.Faults.{
-  front,
+  lineStart,
   front-short,
   front-size,
   front-text,
@@ -33,7 +33,7 @@ abbrev apart-of : tie.After-write-line → List ℕ
 apart-of c = take (end-of c) (c .write-line .last .0)
 
 abbrev front-of : tie.After-write-line → List ℕ
-front-of c = front (start-of c .args .line)
+front-of c = lineStart (start-of c .args .line)
 
 size-of : (c : tie.After-write-line) → c .write-line .result .size ≡ length (front-of c) + 1
 size-of c = front-size (start-of c .args .line) (start-of c .fits .line .fits) _ (c .write-line .ensures .0)
