@@ -42,7 +42,8 @@ takes before byte = isDigit byte && ltb (with-digit before byte) (2 ^ 64)
 module _ (before byte : ℕ) where
   pub takes-low : byte < 48 → takes before byte ≡ false
   unfolding isDigit
-  takes-low l = not-both (ltb (with-digit before byte) (2 ^ 64)) (not-both (ltb byte 58) (le-ltb 47 byte (omega arith)))
+  takes-low l =
+      not-both (ltb (with-digit before byte) (2 ^ 64)) (not-both (ltb byte 58) (le-ltb 47 byte (omega arith)))
 
   pub takes-high : 57 < byte → takes before byte ≡ false
   unfolding isDigit

@@ -1,7 +1,7 @@
 -- Where a table begins, as a call gives it: inside 1 to 13 it is the formula, which grows with the tables, and a file
 -- of the largest has 182,633 bytes. Assumes nothing.
 use mathlib.Core.Path.{_≡_, _∙_}
-use Prim.Native.Nat.{ℕ, _*_, _≤_}
+use Prim.Native.Nat.{ℕ, _≤_}
 use native.Mathlib.Nat.{mul-le-mul}
 use native.Mathlib.Omega.{arith}
 use Rattle.sizes.proofs.Laws.{inside, by-n-inside, table-le}

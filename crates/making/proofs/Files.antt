@@ -29,7 +29,8 @@ use Rattle.making.specs.declared.Maker.{Maker}
 use Rattle.making.specs.Make.{fileBytes, fileRoom, emptyFile}
 
 -- what the heading passed bounds n and t
-sized : (n t faulty : ℕ) (rows : List ℕ) (room : ℕ) → writeHeadingRefusal n t faulty rows room ≡ 0 → sizeRefusal n t ≡ 0
+sized : (n t faulty : ℕ) (rows : List ℕ) (room : ℕ) → writeHeadingRefusal n t faulty rows room ≡ 0 →
+    sizeRefusal n t ≡ 0
 unfolding sizeRefusal firstOf
 sized n t faulty rows room h =
     let s = write-heading-accepted n t faulty rows room h .starts in
@@ -73,7 +74,8 @@ pub heading-cleared : (m : Maker) (rows file part zeros : List ℕ) (from : ℕ)
 unfolding headingBytes
 heading-cleared m rows file part zeros from passes is-part is-from is-zeros whole =
     let n = m .n in
-    let room : headingBytes n ≤ length file = write-heading-accepted n (m .t) (m .faulty) rows (length file) passes .enough in
+    let room : headingBytes n ≤ length file =
+    write-heading-accepted n (m .t) (m .faulty) rows (length file) passes .enough in
     let long : length part ≡ length file = ap length is-part ∙ write-heading-length n (m .t) (m .faulty) rows file in
     let all : length file ≡ fileBytes n (m .t) = whole (λ z. omega (arith, room, z)) in
     let head : take from part ≡ headingFile n (m .t) (m .faulty) rows =
@@ -111,4 +113,5 @@ rows-filed m rows file part end is-end passes is-part =
     let long : end ≡ 0 + length (emptyFile m rows) =
     omega (arith, is-end, whole, file-long n (m .t) (m .faulty) rows end passes, empty-long m rows) in
     ap (λ (xs : List ℕ). xs ++ postOf 0 (end - 0) file) is-part
-    ∙ ap (λ (xs : List ℕ). emptyFile m rows ++ xs) (post-is 0 end file (omega arith) ∙ ap (λ (k : ℕ). drop k file) long)
+    ∙ ap (λ (xs : List ℕ). emptyFile m rows ++ xs)
+    (post-is 0 end file (omega arith) ∙ ap (λ (k : ℕ). drop k file) long)

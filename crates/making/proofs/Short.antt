@@ -1,9 +1,9 @@
--- A line of 1,000 bytes has at most 1,000 numbers, so they fit where a line's numbers go; what is read of it then is all
--- of it. Assumes nothing.
-use mathlib.Core.Path.{_≡_, refl, sym, ap, _∙_}
+-- A line of 1,000 bytes has at most 1,000 numbers, so they fit where a line's numbers go; what is read of it then is
+-- all of it. Assumes nothing.
+use mathlib.Core.Path.{_≡_, refl, ap, _∙_}
 use mathlib.Core.Bool.{Bool, true, false, cond}
 use mathlib.Core.List.{List, [], _∷_}
-use Prim.Native.Nat.{ℕ, _+_, _-_, _≤_, _<_}
+use Prim.Native.Nat.{ℕ, _-_, _≤_, _<_}
 use native.Mathlib.Omega.{arith}
 use lib.Dec.{eqb}
 use lib.ListN.{length, getD, take, length-take}
@@ -11,7 +11,20 @@ use Rattle.counting.proofs.Bools.{either, cond-true, cond-false, and-left}
 use borrow.Author.Tests.{ltb-true}
 use mathlib.Core.Logic.{⊎-elim}
 use Rattle.lines.specs.declared.Words.{Words}
-use Rattle.lines.specs.Read.{bare, piece, behind, nonEmpty, values, saidIn, wordIn, isLine, areNumbers, numbersIn, readReply, readWrites}
+use Rattle.lines.specs.Read.{
+  bare,
+  piece,
+  behind,
+  nonEmpty,
+  values,
+  saidIn,
+  wordIn,
+  isLine,
+  areNumbers,
+  numbersIn,
+  readReply,
+  readWrites,
+}
 use Rattle.lines.proofs.Read.{read-nothing, read-given, read-front}
 
 behind-few : (text : List ℕ) → length (behind text) ≤ length text
@@ -56,7 +69,8 @@ numbers-few line =
     )
 
 -- so a line without a word is none, and one with a word is read whole
-module _ (line slice : List ℕ) (r : Words) (e : r ≡ readReply line (length slice)) (short : length line ≤ length slice) where
+module _ (line slice : List ℕ) (r : Words) (e : r ≡ readReply line (length slice))
+    (short : length line ≤ length slice) where
   fits : length (numbersIn (bare line)) ≤ length slice
   fits = omega (arith, numbers-few line, short)
 

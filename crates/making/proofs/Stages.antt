@@ -1,5 +1,5 @@
 -- What comes of the lines `run`, `rows` and `say`, case by case. Assumes nothing.
-use mathlib.Core.Path.{_≡_, refl, sym, ap, _∙_}
+use mathlib.Core.Path.{_≡_, refl}
 use mathlib.Core.Bool.{Bool, true, false, cond, not, true≢false}
 use mathlib.Core.List.{List}
 use Prim.Native.Nat.{ℕ, _+_, min, _≤_, _<_}
@@ -145,7 +145,11 @@ module _ (m : Maker) (room : ℕ) where
   pub outcome-rows : m .stage ≡ 1 → endsEarly m 4 ≡ outcomeBy m room
   unfolding outcomeBy
   outcome-rows h =
-      rw (lt-leb 3 (m .stage) (omega (arith, h)), ne-eqb (m .stage) 0 (λ z. omega (arith, h, z)), eq-eqb (m .stage) 1 h) refl
+      rw (
+        lt-leb 3 (m .stage) (omega (arith, h)),
+        ne-eqb (m .stage) 0 (λ z. omega (arith, h, z)),
+        eq-eqb (m .stage) 1 h,
+      ) refl
 
   pub outcome-say : m .stage ≡ 2 → wholeFile m room ≡ outcomeBy m room
   unfolding outcomeBy
@@ -162,7 +166,8 @@ module _ (m : Maker) (room : ℕ) where
 
 -- a word and numbers, by the stage
 module _ (s : Progress) (line : List ℕ) (size : ℕ) (numbers : List ℕ) where
-  pub words-run : s .maker .stage ≡ 0 → runTaken s (hasWord line size run-word) numbers ≡ wordsTaken s line size numbers
+  pub words-run : s .maker .stage ≡ 0 →
+      runTaken s (hasWord line size run-word) numbers ≡ wordsTaken s line size numbers
   unfolding wordsTaken
   words-run h = rw (eq-eqb (s .maker .stage) 0 h) refl
 

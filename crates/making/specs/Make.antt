@@ -3,7 +3,7 @@
 -- of bytes.
 use Prim.Native.Nat.{ℕ, _+_, _*_, min}
 use mathlib.Core.Bool.{Bool, cond, not, _&&_}
-use mathlib.Core.List.{List, [], _∷_, _++_}
+use mathlib.Core.List.{List, _++_}
 use lib.Dec.{eqb, ltb}
 use lib.ListN.{length, getD}
 use Rattle.counting.specs.Count.{any, build}
@@ -13,7 +13,6 @@ use Rattle.lines.specs.Line.{placed}
 use Rattle.lines.specs.Read.{bare, wordIn, isLine, numbersIn}
 use Rattle.listing.specs.File.{tableBytes, tableBegins}
 use Rattle.listing.specs.Listing.{run-word}
-use Rattle.says.specs.declared.Place.{Place}
 use Rattle.says.specs.Say.{rows-word, say-word, rowIn, placeReply}
 use Rattle.making.specs.declared.Maker.{Maker}
 

@@ -36,7 +36,8 @@ keeping m kept =
 unfoldable pub byteKept : Reading → ℕ → Reading
 byteKept s byte =
     let kept = s .maker .kept in
-    reading (keeping (s .maker) (cond (ltb kept (length (s .line))) (kept + 1) kept)) (set (s .line) kept byte) (s .file)
+    reading (keeping (s .maker) (cond (ltb kept (length (s .line))) (kept + 1) kept)) (set (s .line) kept byte)
+    (s .file)
 
 -- the unfinished line ends
 unfoldable pub lineOver : Maker → List ℕ → List ℕ → Progress

@@ -45,8 +45,8 @@ ghost use Rattle.making.specs.Text.{
   finishWrites,
 };
 
-// What is known of a text so far. The stage says what is due: 0 the line `run`, 1 the line `rows`, 2 a line `say`; from
-// 3 on the outcome is settled, by a refusal or by a fault in the last of the lines.
+// What is known of a text so far. The stage says what is due: 0 the line `run`, 1 the line `rows`, 2 a line `say`;
+// from 3 on the outcome is settled, by a refusal or by a fault in the last of the lines.
 pub struct Maker {
     pub stage: u8,
     pub n: u8,
@@ -543,8 +543,8 @@ fn left_line(m: Maker, line: &[u8], file: &mut [u8]) -> Maker
     end_line(m, line, &mut numbers, file)
 }
 
-// Ends a text: the outcome, and where it is a file, that stands at the front of the lent file. Refusal 10 where the lent
-// line has not 1,001 places.
+// Ends a text: the outcome, and where it is a file, that stands at the front of the lent file. Refusal 10 where the
+// lent line has not 1,001 places.
 pub fn finish(maker: Maker, line: &[u8], file: &mut [u8]) -> Made
     ensures { λ r. ⌜ r ≡ finishReply maker (now (line .entry)) (now (file .entry)) ⌝ }
     ensures { λ r. ⌜ now (file .exit) ≡ finishWrites maker (now (line .entry)) (now (file .entry)) ⌝ }

@@ -1,7 +1,7 @@
 -- The lines `say` of a text, as docs/TEXT.md has them: where in the file the row of a line goes, and the line of a
 -- place of a table. Boxes and iterations count from 1 in the text and from 0 in a place.
 use Prim.Native.Nat.{ℕ, _+_, _-_, _*_, _/_, _%_}
-use mathlib.Core.Bool.{Bool, true, false, cond, _&&_, _||_}
+use mathlib.Core.Bool.{Bool, true, false, cond, _&&_}
 use mathlib.Core.List.{List, [], _∷_}
 use lib.Dec.{eqb, leb, ltb}
 use lib.ListN.{length, getD}

@@ -1,5 +1,5 @@
-// What the lines of a text say (docs/TEXT.md): where in a run file the row of a line `say` goes, the line of a place of
-// a table, and the line that is told where a text or a file is bad.
+// What the lines of a text say (docs/TEXT.md): where in a run file the row of a line `say` goes, the line of a place
+// of a table, and the line that is told where a text or a file is bad.
 use lines::Written;
 ghost use mathlib.Core.Path.{_≡_};
 ghost use Prim.Native.Nat.{_≤_};

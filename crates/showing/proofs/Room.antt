@@ -189,7 +189,8 @@ module _ (bytes : List ℕ) (part room : ℕ) where
       endsWith bytes ≡ 0 → ⊥
   other-refused some other z =
       ⊎-elim
-      (λ t. some (show-number bytes part room ∙ refused-none bytes part room z (leb-true (partRoom bytes part) room t)))
+      (λ t.
+      some (show-number bytes part room ∙ refused-none bytes part room z (leb-true (partRoom bytes part) room t)))
       (λ f.
       other (show-number bytes part room ∙ refused-short bytes part room z (leb-false (partRoom bytes part) room f)))
       (either (leb (partRoom bytes part) room))

@@ -1,5 +1,5 @@
--- The text that is shown of a run file, as docs/TEXT.md has it, part by part: part 0 is the lines `run` and `rows`, and
--- part m the lines of table m, counted from 1. A text is a list of bytes.
+-- The text that is shown of a run file, as docs/TEXT.md has it, part by part: part 0 is the lines `run` and `rows`,
+-- and part m the lines of table m, counted from 1. A text is a list of bytes.
 use Prim.Native.Nat.{ℕ, zero, suc, _+_, _-_, _*_}
 use mathlib.Core.Bool.{cond}
 use mathlib.Core.List.{List, [], _++_}

@@ -1,5 +1,5 @@
--- `listing::table_begins` meets its contract: inside 1 to 13 the table by n is the formula, and 255 times its bytes are
--- few; outside both sides are 0. Assumes nothing.
+-- `listing::table_begins` meets its contract: inside 1 to 13 the table by n is the formula, and 255 times its bytes
+-- are few; outside both sides are 0. Assumes nothing.
 use mathlib.Core.Path.{_≡_, sym, ap, _∙_}
 use Prim.Native.Nat.{ℕ, _+_, _*_, _≤_}
 use native.Mathlib.Nat.{mul-le-mul}

@@ -3,7 +3,6 @@
 use mathlib.Core.Path.{ap}
 use Prim.Native.Nat.{ℕ}
 use Rattle.making.specs.Make.{afterLine}
-use Rattle.making.specs.declared.Maker.{Maker}
 use borrow.Author.Needs.{needs}
 use Rattle.making.proofs.after_line.Statement.{statement}
 use Rattle.making.proofs.after_line.Tie as tie

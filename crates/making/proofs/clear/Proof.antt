@@ -1,5 +1,5 @@
--- `making::clear` meets its contract: after k turns the first k places hold 0. What is left of the slice falls. Assumes
--- nothing.
+-- `making::clear` meets its contract: after k turns the first k places hold 0. What is left of the slice falls.
+-- Assumes nothing.
 use mathlib.Core.Path.{refl}
 use Prim.Native.Nat.{ℕ, _-_, _<_}
 use native.Mathlib.Nat.{le-refl}
@@ -47,4 +47,15 @@ returns c =
     fill-ends zero-at _ refl filled (omega (arith, c .loop-test .left, fill-length zero-at _ (le-refl _) filled))
 
 pub clear-spec : {M : Type 1} → statement M
-clear-spec = tie.close (tie.spec Inv-loop μ-loop loop-holds slice-write-bytes add-k loop-less loop-again same-length returns)
+clear-spec =
+    tie.close
+    (tie.spec
+    Inv-loop
+    μ-loop
+    loop-holds
+    slice-write-bytes
+    add-k
+    loop-less
+    loop-again
+    same-length
+    returns)

@@ -1,8 +1,6 @@
 -- `making::end_line` meets its contract: where more is kept than the line has places, all of it is the line. Assumes
 -- nothing.
 use mathlib.Core.Path.{sym, ap, _∙_}
-use mathlib.Core.List.{List}
-use Prim.Native.Nat.{ℕ}
 use native.Mathlib.Omega.{arith}
 use lib.Seq.{take-all, length-take-le}
 use Rattle.making.specs.Make.{progress, lineEnded}
@@ -47,4 +45,15 @@ unfolding lineOver
 returns-2 c = c .before .before .before .before .take-line2 .ensures
 
 pub end-line-spec : {M : Type 1} → statement M
-end-line-spec = tie.close (tie.spec take-line-requires same-length same-length-2 returns slice-aggregate-take-line take-line-requires-2 same-length-3 same-length-4 returns-2)
+end-line-spec =
+    tie.close
+    (tie.spec
+    take-line-requires
+    same-length
+    same-length-2
+    returns
+    slice-aggregate-take-line
+    take-line-requires-2
+    same-length-3
+    same-length-4
+    returns-2)

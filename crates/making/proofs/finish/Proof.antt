@@ -1,11 +1,8 @@
 -- `making::finish` meets its contract: a settled outcome stays, a line that is too short is refused, and otherwise the
 -- last line ends and the stage decides. Assumes nothing.
 use mathlib.Core.Path.{_≡_, refl, sym, ap, _∙_}
-use mathlib.Core.List.{List}
-use Prim.Native.Nat.{ℕ}
 use lib.ListN.{length}
 use borrow.Author.Tests.{le-leb, lt-leb, lt-ltb, le-ltb}
-use Rattle.making.specs.declared.Maker.{Maker}
 use Rattle.making.specs.Make.{Progress}
 use Rattle.making.specs.Text.{outcomeBy, finishReply, finishWrites}
 use borrow.Author.Needs.{needs}
@@ -58,7 +55,17 @@ returns-3 c =
     )
 
 pub finish-spec : {M : Type 1} → statement M
-finish-spec = tie.close (tie.spec settled-as-requires returns refused-as-requires returns-2 left-line-requires outcome-by-requires same-length returns-3)
+finish-spec =
+    tie.close
+    (tie.spec
+    settled-as-requires
+    returns
+    refused-as-requires
+    returns-2
+    left-line-requires
+    outcome-by-requires
+    same-length
+    returns-3)
 
 -- the contract admits one reply, and one last contents of the file
 pub only-one : (κs : _) (a : _) (r s : _) (x y : _) → Reads.Post κs a r x → Reads.Post κs a s y →

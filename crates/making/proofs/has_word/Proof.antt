@@ -1,10 +1,9 @@
 -- `making::has_word` meets its contract: two of different length are not the same; else none of the first k bytes
 -- differs, and the search ends at the first that does. What is left of the word falls. Assumes nothing.
-use mathlib.Core.Path.{_≡_, refl, sym, ap}
+use mathlib.Core.Path.{refl, sym, ap}
 use mathlib.Core.Bool.{not}
 use Prim.Native.Nat.{_-_}
 use borrow.Author.Tests.{eq-eqb, ne-eqb}
-use lib.ListN.{length}
 use Rattle.counting.proofs.Loops.{NoneYet, search-begins, search-turn, search-hits, search-ends}
 use Rattle.making.specs.Make.{differ, hasWord}
 use borrow.Author.Needs.{needs}
@@ -62,4 +61,17 @@ returns-3 c =
     rw (eq-eqb _ _ (c .before .before .if1 .left), ← none) refl
 
 pub has-word-spec : {M : Type 1} → statement M
-has-word-spec = tie.close (tie.spec Inv-loop μ-loop returns loop-holds shared-slice-read-if2 shared-slice-read-if2-2 returns-2 add-k loop-less loop-again returns-3)
+has-word-spec =
+    tie.close
+    (tie.spec
+    Inv-loop
+    μ-loop
+    returns
+    loop-holds
+    shared-slice-read-if2
+    shared-slice-read-if2-2
+    returns-2
+    add-k
+    loop-less
+    loop-again
+    returns-3)

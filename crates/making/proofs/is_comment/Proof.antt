@@ -1,5 +1,5 @@
 -- `making::is_comment` meets its contract: a line of no bytes has 0 for its first, which is no `#`. Assumes nothing.
-use mathlib.Core.Path.{_≡_, refl, sym, _∙_}
+use mathlib.Core.Path.{_≡_, refl}
 use mathlib.Core.List.{List, [], _∷_}
 use mathlib.Core.Bool.{false}
 use Prim.Native.Nat.{ℕ}

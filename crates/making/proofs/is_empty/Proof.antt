@@ -40,4 +40,15 @@ unfolding isEmpty
 returns-2 c = ap not (search-ends _ (c .before .loop .inv) (c .loop-test .left))
 
 pub is-empty-spec : {M : Type 1} → statement M
-is-empty-spec = tie.close (tie.spec Inv-loop μ-loop loop-holds is-shown-requires returns add-k loop-less loop-again returns-2)
+is-empty-spec =
+    tie.close
+    (tie.spec
+    Inv-loop
+    μ-loop
+    loop-holds
+    is-shown-requires
+    returns
+    add-k
+    loop-less
+    loop-again
+    returns-2)

@@ -38,7 +38,8 @@ returns-2 : tie.Need-returns-2
 unfolding isSettled
 returns-2 c =
     let a = c .before .before .before .before .before .args in
-    rw (lt-leb 3 _ (c .before .before .if1 .left), le-ltb 1000 _ (few (a .maker .kept) (a .line .now) (c .if2 .taken))) refl
+    let less = few (a .maker .kept) (a .line .now) (c .if2 .taken) in
+    rw (lt-leb 3 _ (c .before .before .if1 .left), le-ltb 1000 _ less) refl
 
 returns-3 : tie.Need-returns-3
 unfolding isSettled

@@ -1,7 +1,6 @@
 -- `making::keep` meets its contract: field by field it is the definition. Assumes nothing.
 use mathlib.Core.Path.{refl}
 use Rattle.making.specs.Text.{keeping}
-use borrow.Author.Needs.{needs}
 use Rattle.making.proofs.keep.Statement.{statement}
 use Rattle.making.proofs.keep.Tie as tie
 

@@ -1,7 +1,6 @@
 -- `making::no_text` meets its contract: field by field it is the definition. Assumes nothing.
 use mathlib.Core.Path.{_≡_, refl, sym, _∙_}
 use Rattle.making.specs.Make.{noText}
-use borrow.Author.Needs.{needs}
 use Rattle.making.proofs.no_text.Statement.{statement}
 use Rattle.making.proofs.no_text.Tie as tie
 use Rattle.making.proofs.no_text.Reads as Reads

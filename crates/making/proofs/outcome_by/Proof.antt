@@ -1,7 +1,6 @@
 -- `making::outcome_by` meets its contract: the stage is one of four cases, and each has its outcome. Assumes nothing.
 use mathlib.Core.Path.{_∙_}
 use Prim.Native.Nat.{_≤_}
-use native.Mathlib.Omega.{arith}
 use Rattle.making.proofs.Stages.{outcome-run, outcome-rows, outcome-say, outcome-over}
 use borrow.Author.Needs.{needs}
 use Rattle.making.proofs.outcome_by.Statement.{statement}
@@ -35,4 +34,14 @@ returns-4 c =
     c .settled-as .ensures ∙ outcome-over _ _ over
 
 pub outcome-by-spec : {M : Type 1} → statement M
-outcome-by-spec = tie.close (tie.spec ends-early-requires ends-early-requires-2 whole-file-requires settled-as-requires returns returns-2 returns-3 returns-4)
+outcome-by-spec =
+    tie.close
+    (tie.spec
+    ends-early-requires
+    ends-early-requires-2
+    whole-file-requires
+    settled-as-requires
+    returns
+    returns-2
+    returns-3
+    returns-4)

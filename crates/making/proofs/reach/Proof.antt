@@ -1,7 +1,6 @@
 -- `making::reach` meets its contract: field by field it is the definition. Assumes nothing.
 use mathlib.Core.Path.{refl}
 use Rattle.making.specs.Make.{reached}
-use borrow.Author.Needs.{needs}
 use Rattle.making.proofs.reach.Statement.{statement}
 use Rattle.making.proofs.reach.Tie as tie
 

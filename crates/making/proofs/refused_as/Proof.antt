@@ -1,7 +1,6 @@
 -- `making::refused_as` meets its contract: field by field it is the definition. Assumes nothing.
 use mathlib.Core.Path.{refl}
 use Rattle.making.specs.Text.{refusedAs}
-use borrow.Author.Needs.{needs}
 use Rattle.making.proofs.refused_as.Statement.{statement}
 use Rattle.making.proofs.refused_as.Tie as tie
 

@@ -1,7 +1,6 @@
 -- `making::settle` meets its contract: field by field it is the definition. Assumes nothing.
 use mathlib.Core.Path.{refl}
 use Rattle.making.specs.Make.{settled}
-use borrow.Author.Needs.{needs}
 use Rattle.making.proofs.settle.Statement.{statement}
 use Rattle.making.proofs.settle.Tie as tie
 

@@ -44,7 +44,17 @@ returns-3 c =
     t .take-bytes .ensures ∙ rw (lt-leb 3 _ (d .before .if1 .left), le-ltb _ 1001 (d .if2 .left)) refl
 
 pub take-spec : {M : Type 1} → statement M
-take-spec = tie.close (tie.spec returns settle-requires returns-2 slice-aggregate-take-bytes take-bytes-requires same-length same-length-2 returns-3)
+take-spec =
+    tie.close
+    (tie.spec
+    returns
+    settle-requires
+    returns-2
+    slice-aggregate-take-bytes
+    take-bytes-requires
+    same-length
+    same-length-2
+    returns-3)
 
 -- the contract admits one reply, and one last contents of each slice
 pub only-one : (κs : _) (a : _) (r s : _) (x y : _) → Reads.Post κs a r x → Reads.Post κs a s y →

@@ -1,10 +1,8 @@
 -- `making::take_byte` meets its contract: its three cases are those of the definition. Assumes nothing.
 use mathlib.Core.Path.{refl, ap, _∙_}
-use mathlib.Core.List.{List}
-use Prim.Native.Nat.{ℕ}
 use borrow.Author.Tests.{eq-eqb, ne-eqb, le-leb, lt-leb}
 use Rattle.making.specs.Make.{Progress}
-use Rattle.making.specs.Text.{Reading, reading, newline, byteTaken}
+use Rattle.making.specs.Text.{reading, newline, byteTaken}
 use borrow.Author.Needs.{needs}
 use Rattle.making.proofs.take_byte.Statement.{statement}
 use Rattle.making.proofs.take_byte.Tie as tie
@@ -50,4 +48,15 @@ returns-3 c =
     ∙ rw (lt-leb 3 _ (n .before .if1 .left), ne-eqb _ 10 (n .if2 .left)) refl
 
 pub take-byte-spec : {M : Type 1} → statement M
-take-byte-spec = tie.close (tie.spec returns end-line-requires same-length same-length-2 same-length-3 returns-2 keep-byte-requires same-length-4 returns-3)
+take-byte-spec =
+    tie.close
+    (tie.spec
+    returns
+    end-line-requires
+    same-length
+    same-length-2
+    same-length-3
+    returns-2
+    keep-byte-requires
+    same-length-4
+    returns-3)

@@ -1,7 +1,6 @@
 -- `making::take_bytes` meets its contract: what the bytes that are left make of what is known so far is what all bytes
 -- make of what was known at first. What is left of the text falls. Assumes nothing.
 use mathlib.Core.Path.{_≡_, refl, sym, ap, _∙_}
-use mathlib.Core.List.{List}
 use Prim.Native.Nat.{_+_, _-_, _≤_}
 use native.Mathlib.Omega.{arith}
 use lib.ListN.{length, drop}
@@ -76,4 +75,18 @@ returns c =
     bytes-end _ text (c .before .loop .i) (c .loop-test .left) ∙ inv .4
 
 pub take-bytes-spec : {M : Type 1} → statement M
-take-bytes-spec = tie.close (tie.spec Inv-loop μ-loop loop-holds shared-slice-read-take-byte take-byte-requires add-i loop-less loop-again same-length same-length-2 same-length-3 returns)
+take-bytes-spec =
+    tie.close
+    (tie.spec
+    Inv-loop
+    μ-loop
+    loop-holds
+    shared-slice-read-take-byte
+    take-byte-requires
+    add-i
+    loop-less
+    loop-again
+    same-length
+    same-length-2
+    same-length-3
+    returns)

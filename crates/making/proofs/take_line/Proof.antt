@@ -1,17 +1,24 @@
--- `making::take_line` meets its contract: it goes through the cases of the definition, in their order. A line of at most
--- 1,000 bytes has no more numbers than there are places for. Assumes nothing.
+-- `making::take_line` meets its contract: it goes through the cases of the definition, in their order. A line of at
+-- most 1,000 bytes has no more numbers than there are places for. Assumes nothing.
 use mathlib.Core.Path.{_≡_, sym, ap, _∙_}
 use mathlib.Core.Bool.{false}
-use mathlib.Core.List.{List}
 use Prim.Native.Nat.{ℕ, _≤_}
 use native.Mathlib.Omega.{arith}
 use lib.ListN.{length, take}
 use lib.Seq.{length-take-le}
 use Rattle.lines.specs.declared.Words.{Words}
-use Rattle.lines.specs.Read.{bare, wordIn, numbersIn}
+use Rattle.lines.specs.Read.{bare, wordIn}
 use Rattle.lines.proofs.Read.{read-within, read-keeps}
 use Rattle.making.specs.declared.Maker.{Maker}
-use Rattle.making.specs.Make.{Progress, progress, afterLine, settled, notUnderstood, isComment, contentTaken, lineEnded, wordsTaken}
+use Rattle.making.specs.Make.{
+  progress,
+  settled,
+  notUnderstood,
+  isComment,
+  wordsTaken,
+  contentTaken,
+  lineEnded,
+}
 use Rattle.making.proofs.Stages.{
   counted-so,
   line-comment,
@@ -177,4 +184,23 @@ returns-5 c =
     ∙ content-of (full-of r)
 
 pub take-line-spec : {M : Type 1} → statement M
-take-line-spec = tie.close (tie.spec after-line-requires is-comment-requires returns settle-requires returns-2 is-empty-requires returns-3 read-line-requires settle-requires-2 same-length returns-4 slice-reshare-prefix-take-words slice-aggregate-take-words take-words-requires same-length-2 same-length-3 returns-5)
+take-line-spec =
+    tie.close
+    (tie.spec
+    after-line-requires
+    is-comment-requires
+    returns
+    settle-requires
+    returns-2
+    is-empty-requires
+    returns-3
+    read-line-requires
+    settle-requires-2
+    same-length
+    returns-4
+    slice-reshare-prefix-take-words
+    slice-aggregate-take-words
+    take-words-requires
+    same-length-2
+    same-length-3
+    returns-5)

@@ -1,5 +1,5 @@
--- `making::take_rows` meets its contract: another word is not understood. The heading and the zeros go to as much of the
--- file as they need, which is none where there is not enough. Assumes nothing.
+-- `making::take_rows` meets its contract: another word is not understood. The heading and the zeros go to as much of
+-- the file as they need, which is none where there is not enough. Assumes nothing.
 use mathlib.Core.Path.{_≡_, sym, ap, _∙_}
 use mathlib.Core.List.{List, _++_}
 use Prim.Native.Nat.{ℕ, _-_}
@@ -63,7 +63,8 @@ number-of c =
     let r = c .before .before in
     let a = start-of r .args in
     c .write-empty .ensures .0
-    ∙ ap (writeHeadingRefusal (a .m .n) (a .m .t) (a .m .faulty) (a .rows .now)) (part-long r ∙ r .file-room .ensures .0)
+    ∙ ap (writeHeadingRefusal (a .m .n) (a .m .t) (a .m .faulty) (a .rows .now))
+    (part-long r ∙ r .file-room .ensures .0)
 
 settle-requires-2 : tie.Need-settle-requires-2
 settle-requires-2 c κs = search needs
@@ -103,7 +104,9 @@ returns-3 c =
     let e = w .write-empty .ensures in
     let none : w .write-empty .result ≡ 0 = c .before .if2 .left in
     let passes : writeHeadingRefusal (a .m .n) (a .m .t) (a .m .faulty) (a .rows .now) end ≡ 0 =
-    ap (writeHeadingRefusal (a .m .n) (a .m .t) (a .m .faulty) (a .rows .now)) (sym (part-long r)) ∙ sym (e .0) ∙ none in
+    ap (writeHeadingRefusal (a .m .n) (a .m .t) (a .m .faulty) (a .rows .now)) (sym (part-long r))
+    ∙ sym (e .0)
+    ∙ none in
     ap (λ (m : Maker). progress m (w .write-empty .last .1 .1 .0 ++ postOf 0 (end - 0) (a .file .now)))
     (c .reach .ensures)
     ∙ ap (progress (reached (a .m) 2 (a .m .n) (a .m .t) (a .m .faulty)))
@@ -112,4 +115,19 @@ returns-3 c =
     (sym (number-of w) ∙ none)
 
 pub take-rows-spec : {M : Type 1} → statement M
-take-rows-spec = tie.close (tie.spec settle-requires returns file-room-requires sub-write-empty part-write-empty-start part-write-empty-end write-empty-requires settle-requires-2 same-length returns-2 reach-requires same-length-2 returns-3)
+take-rows-spec =
+    tie.close
+    (tie.spec
+    settle-requires
+    returns
+    file-room-requires
+    sub-write-empty
+    part-write-empty-start
+    part-write-empty-end
+    write-empty-requires
+    settle-requires-2
+    same-length
+    returns-2
+    reach-requires
+    same-length-2
+    returns-3)

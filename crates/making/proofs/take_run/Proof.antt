@@ -73,13 +73,31 @@ returns-3 c =
     let l1 = l2 .before .before in
     let s = three-of c in
     let a = s .before .before .before .args in
+    let n = min (getD (a .numbers .now) 0 0) 255 in
     λ file.
     ap (λ (m : Maker). progress m file)
     (c .reach .ensures
     ∙ ap (λ (k : ℕ). reached (a .m) 1 k (l2 .least2 .result) (l3 .least3 .result)) (l1 .least .ensures)
-    ∙ ap (λ (k : ℕ). reached (a .m) 1 (min (getD (a .numbers .now) 0 0) 255) k (l3 .least3 .result)) (l2 .least2 .ensures)
-    ∙ ap (reached (a .m) 1 (min (getD (a .numbers .now) 0 0) 255) (min (getD (a .numbers .now) 1 0) 255)) (l3 .least3 .ensures))
+    ∙ ap (λ (k : ℕ). reached (a .m) 1 n k (l3 .least3 .result)) (l2 .least2 .ensures)
+    ∙ ap (reached (a .m) 1 n (min (getD (a .numbers .now) 1 0) 255)) (l3 .least3 .ensures))
     ∙ run-good (progress (a .m) file) (a .named) (a .numbers .now) (s .before .if1 .left) (s .if2 .left)
 
 pub take-run-spec : {M : Type 1} → statement M
-take-run-spec = tie.close (tie.spec settle-requires returns settle-requires-2 returns-2 shared-slice-read-least least-requires cast-n shared-slice-read-least-2 least-requires-2 cast-t shared-slice-read-least-3 least-requires-3 cast-faulty reach-requires returns-3)
+take-run-spec =
+    tie.close
+    (tie.spec
+    settle-requires
+    returns
+    settle-requires-2
+    returns-2
+    shared-slice-read-least
+    least-requires
+    cast-n
+    shared-slice-read-least-2
+    least-requires-2
+    cast-t
+    shared-slice-read-least-3
+    least-requires-3
+    cast-faulty
+    reach-requires
+    returns-3)

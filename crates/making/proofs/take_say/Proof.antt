@@ -1,7 +1,6 @@
 -- `making::take_say` meets its contract: it goes through the cases of the definition, in their order. A line that is
 -- understood has five numbers at least, so that it has a last. Assumes nothing.
 use mathlib.Core.Path.{_≡_, sym, ap, _∙_}
-use mathlib.Core.List.{List}
 use Prim.Native.Nat.{ℕ, _≤_}
 use native.Mathlib.Omega.{arith}
 use lib.ListN.{length}
@@ -142,4 +141,22 @@ returns-5 c =
     ∙ understood u
 
 pub take-say-spec : {M : Type 1} → statement M
-take-say-spec = tie.close (tie.spec settle-requires returns place-of-requires settle-requires-2 returns-2 settle-requires-3 returns-3 sub-row mul-row shared-slice-read-row write-row-requires settle-requires-4 same-length returns-4 same-length-2 returns-5)
+take-say-spec =
+    tie.close
+    (tie.spec
+    settle-requires
+    returns
+    place-of-requires
+    settle-requires-2
+    returns-2
+    settle-requires-3
+    returns-3
+    sub-row
+    mul-row
+    shared-slice-read-row
+    write-row-requires
+    settle-requires-4
+    same-length
+    returns-4
+    same-length-2
+    returns-5)

@@ -1,8 +1,6 @@
 -- `making::take_words` meets its contract: the stage says which word is due. Assumes nothing.
 use mathlib.Core.Path.{ap, _∙_}
 use mathlib.Core.Bool.{Bool}
-use mathlib.Core.List.{List}
-use Prim.Native.Nat.{ℕ}
 use Rattle.making.specs.Make.{Progress, progress, runTaken, rowsTaken, sayTaken}
 use Rattle.making.proofs.Stages.{words-run, words-rows, words-say}
 use borrow.Author.Needs.{needs}
@@ -80,4 +78,20 @@ returns-3 c =
     (h .before .before .match .rest .1)
 
 pub take-words-spec : {M : Type 1} → statement M
-take-words-spec = tie.close (tie.spec slice-aggregate-has-word has-word-requires take-run-requires slice-aggregate-has-word-2 has-word-requires-2 take-rows-requires slice-aggregate-has-word-3 has-word-requires-3 take-say-requires returns same-length returns-2 same-length-2 returns-3)
+take-words-spec =
+    tie.close
+    (tie.spec
+    slice-aggregate-has-word
+    has-word-requires
+    take-run-requires
+    slice-aggregate-has-word-2
+    has-word-requires-2
+    take-rows-requires
+    slice-aggregate-has-word-3
+    has-word-requires-3
+    take-say-requires
+    returns
+    same-length
+    returns-2
+    same-length-2
+    returns-3)

@@ -1,9 +1,9 @@
--- `making::whole_file` meets its contract: it goes through the cases of the definition, in their order. Assumes nothing.
-use mathlib.Core.Path.{_≡_, refl, sym, ap, _∙_}
-use Prim.Native.Nat.{ℕ}
+-- `making::whole_file` meets its contract: it goes through the cases of the definition, in their order. Assumes
+-- nothing.
+use mathlib.Core.Path.{_≡_, refl, sym, _∙_}
 use borrow.Author.Tests.{eq-eqb, ne-eqb, lt-ltb, le-ltb}
 use Rattle.sizes.specs.Sizes.{sizeRefusal}
-use Rattle.making.specs.Text.{refusedAs, wholeFile}
+use Rattle.making.specs.Text.{wholeFile}
 use borrow.Author.Needs.{needs}
 use Rattle.making.proofs.whole_file.Statement.{statement}
 use Rattle.making.proofs.whole_file.Tie as tie
@@ -48,4 +48,14 @@ returns-3 c =
     rw (eq-eqb _ 0 (passes (f .before)), ← f .file-bytes .ensures, le-ltb _ _ (c .if2 .left)) refl
 
 pub whole-file-spec : {M : Type 1} → statement M
-whole-file-spec = tie.close (tie.spec cast-size-refusal size-refusal-requires refused-as-requires returns file-bytes-requires refused-as-requires-2 returns-2 returns-3)
+whole-file-spec =
+    tie.close
+    (tie.spec
+    cast-size-refusal
+    size-refusal-requires
+    refused-as-requires
+    returns
+    file-bytes-requires
+    refused-as-requires-2
+    returns-2
+    returns-3)

@@ -1,26 +1,13 @@
--- `making::write_empty` meets its contract: a heading that is refused is not written. Otherwise it has room, so that the
--- slice is as long as the file, and behind the heading all of it is cleared. Assumes nothing.
+-- `making::write_empty` meets its contract: a heading that is refused is not written. Otherwise it has room, so that
+-- the slice is as long as the file, and behind the heading all of it is cleared. Assumes nothing.
 use mathlib.Core.Path.{_≡_, refl, sym, ap, _∙_}
-use mathlib.Core.List.{List, [], _++_}
-use Prim.Native.Nat.{ℕ, _+_, _-_, _*_, _≤_}
+use Prim.Native.Nat.{_≤_}
 use native.Mathlib.Omega.{arith}
-use lib.ListN.{length, take, drop}
-use borrow.Rule.Slice.PartMut.{mid-len, post-is}
-use Rattle.counting.specs.Count.{build}
+use lib.ListN.{length}
 use Rattle.runfile.specs.declared.write.Wrote.{Wrote}
 use Rattle.runfile.specs.File.{headingBytes}
-use Rattle.runfile.specs.Write.{headingFile, writeHeadingRefusal, writeHeadingReply, writeHeadingWrites}
-use Rattle.runfile.proofs.Written.{
-  HeadingWritten,
-  write-heading-accepted,
-  write-heading-number,
-  write-heading-leaves,
-  write-heading-size,
-  write-heading-front,
-  write-heading-length,
-}
-use Rattle.listing.specs.File.{tableBytes}
-use Rattle.making.specs.Make.{fileBytes, emptyFile}
+use Rattle.runfile.specs.Write.{writeHeadingRefusal}
+use Rattle.runfile.proofs.Written.{write-heading-accepted, write-heading-number, write-heading-leaves, write-heading-size, write-heading-length}
 use Rattle.making.proofs.Files.{heading-cleared}
 use borrow.Author.Needs.{needs}
 use Rattle.making.proofs.write_empty.Statement.{statement}
@@ -110,4 +97,15 @@ returns-2 c =
     )
 
 pub write-empty-spec : {M : Type 1} → statement M
-write-empty-spec = tie.close (tie.spec write-heading-requires same-length returns sub-clear part-clear-start part-clear-end clear-requires same-length-2 returns-2)
+write-empty-spec =
+    tie.close
+    (tie.spec
+    write-heading-requires
+    same-length
+    returns
+    sub-clear
+    part-clear-start
+    part-clear-end
+    clear-requires
+    same-length-2
+    returns-2)

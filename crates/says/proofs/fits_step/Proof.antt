@@ -34,7 +34,8 @@ is-within-requires : tie.Need-is-within-requires
 is-within-requires c κs = search needs
 
 returns-3 : tie.Need-returns-3
-returns-3 c = sym (later-of (c .before) ∙ not-both _ (sym (c .before .is-within .ensures) ∙ not-true _ (c .if3 .taken)))
+returns-3 c =
+    sym (later-of (c .before) ∙ not-both _ (sym (c .before .is-within .ensures) ∙ not-true _ (c .if3 .taken)))
 
 returns-4 : tie.Need-returns-4
 returns-4 c =

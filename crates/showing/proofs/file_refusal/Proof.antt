@@ -1,5 +1,5 @@
--- `showing::file_refusal` meets its contract: a refused heading is the refusal; behind a good one the listing ends with
--- 0 where the file ends with its last table, and with 8 where it does not. Assumes nothing.
+-- `showing::file_refusal` meets its contract: a refused heading is the refusal; behind a good one the listing ends
+-- with 0 where the file ends with its last table, and with 8 where it does not. Assumes nothing.
 use mathlib.Core.Path.{_≡_, sym, ap, _∙_}
 use mathlib.Core.List.{List}
 use Prim.Native.Nat.{ℕ, _+_}

@@ -1,5 +1,5 @@
--- `showing::show` meets its contract: the heading is read with room for thirteen rows; what is refused leaves the slice
--- as it is, and otherwise the part is put at its front. Assumes nothing.
+-- `showing::show` meets its contract: the heading is read with room for thirteen rows; what is refused leaves the
+-- slice as it is, and otherwise the part is put at its front. Assumes nothing.
 use mathlib.Core.Path.{_≡_, sym, ap, ap₂, _∙_}
 use mathlib.Core.List.{List}
 use Prim.Native.Nat.{ℕ, _+_, _≤_}
