@@ -3,3 +3,4 @@ pub mod Stages
 pub mod Files
 pub mod Short
 pub mod Pieces
+pub mod Fits
