@@ -1,4 +1,5 @@
--- The size of what was made is never more than the slice in which the file stands, whatever the maker. Assumes nothing.
+-- The size of what was made is never more than the slice in which the file stands, whatever the maker. Assumes
+-- nothing.
 use mathlib.Core.Path.{_≡_, refl}
 use mathlib.Core.Bool.{Bool, true, false, cond}
 use mathlib.Core.List.{List}
@@ -42,7 +43,8 @@ unfolding outcomeBy settledAs endsEarly
 outcome-fits m room = go (leb 3 (m .stage)) (eqb (m .stage) 0) (eqb (m .stage) 1)
   where
     go : (a b c : Bool) →
-        (cond {A = Made} a (settledAs m) (cond b (endsEarly m 3) (cond c (endsEarly m 4) (wholeFile m room)))) .size ≤ room
+        (cond {A = Made} a (settledAs m) (cond b (endsEarly m 3) (cond c (endsEarly m 4) (wholeFile m room)))) .size
+        ≤ room
     go true b c = omega arith
     go false true c = omega arith
     go false false true = omega arith

@@ -4,3 +4,6 @@ pub mod Files
 pub mod Short
 pub mod Pieces
 pub mod Fits
+pub mod Stays
+pub mod Whole
+pub mod Calls
