@@ -4,6 +4,6 @@ pub mod Files
 pub mod Short
 pub mod Pieces
 pub mod Fits
-pub mod Stays
+pub mod Follows
 pub mod Whole
 pub mod Calls

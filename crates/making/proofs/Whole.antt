@@ -51,7 +51,7 @@ use Rattle.making.specs.Text.{
   madeOf,
   madeFile,
 }
-use Rattle.making.proofs.Stays.{line-file-long, line-keeps-none}
+use Rattle.making.proofs.Follows.{line-file-long, line-keeps-none}
 use Rattle.making.proofs.Stages.{line-long}
 
 -- one piece, and another behind it
