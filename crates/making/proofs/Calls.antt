@@ -1,10 +1,11 @@
 -- A text made by calls: the contracts of `no_text`, `take` and `finish`, as the toolchain states them, of one reply
 -- after another. A text may be cut into any number of pieces, of any lengths: the last reply and the last file are
--- those that the definition over the lines of the whole text gives. So where it was cut does not matter. A contract
--- that said less of its reply would not do. And there are such calls, for all pieces and slices. Assumes nothing.
+-- those that the definition over the lines of the whole text gives. So where it was cut does not matter. And where
+-- `is_settled` says so, nothing that follows does. A contract that said less of its reply would not do. There are such
+-- calls, for all pieces and slices. Assumes nothing.
 use mathlib.Core.Path.{_≡_, refl, sym, ap, _∙_}
 use mathlib.Core.Bool.{Bool, true, false}
-use mathlib.Core.List.{List, [], _∷_, flatten}
+use mathlib.Core.List.{List, [], _∷_, _++_, flatten}
 use Prim.Native.Nat.{ℕ, _≤_}
 use native.Mathlib.Omega.{arith}
 use lib.Dec.{leb}
@@ -15,7 +16,7 @@ use Rattle.tally.proofs.Calls.{lent}
 use Rattle.making.specs.declared.Maker.{Maker}
 use Rattle.making.specs.declared.Made.{Made}
 use Rattle.making.specs.Make.{noText}
-use Rattle.making.specs.Text.{Reading, reading, bytesTaken, takeReply, madeOf, madeFile}
+use Rattle.making.specs.Text.{Reading, reading, bytesTaken, takeReply, isSettled, madeOf, madeFile}
 use Rattle.making.proofs.Whole.{
   pieces-join,
   bytes-stay,
@@ -24,10 +25,13 @@ use Rattle.making.proofs.Whole.{
   fileAt,
   text-reply,
   text-file,
+  stopped-reply,
+  stopped-file,
 }
 use Rattle.making.proofs.no_text.Reads as NoTextReads
 use Rattle.making.proofs.take.Reads as TakeReads
 use Rattle.making.proofs.finish.Reads as FinishReads
+use Rattle.making.proofs.is_settled.Reads as SettledReads
 
 -- r is a reply of `no_text`
 pub data NoTextCall : Maker → Type 1 where
@@ -93,14 +97,22 @@ take-calls-are room (TakeCalls.next {s} {r} {last} {piece} {pieces} c cs) =
     ∙ ap (λ (t : Reading). bytesTaken t (flatten pieces)) one
     ∙ sym (pieces-join s piece (flatten pieces))
 
+-- what is known behind the last piece
+abbrev taken-from : List ℕ → List ℕ → List (List ℕ) → Reading
+taken-from line file pieces = bytesTaken (reading noText line file) (flatten pieces)
+
+all-is : {pieces : List (List ℕ)} {line file last : List ℕ} {reply : Made} → 1001 ≤ length line →
+    (c : TextCalls pieces line file reply last) → c .all ≡ taken-from line file pieces
+all-is {pieces} {line} {file} room c =
+    take-calls-are room (c .taken) ∙ ap (λ (m : Maker). bytesTaken (reading m line file) (flatten pieces))
+    (no-text-call-is (c .begun))
+
 -- the text of all pieces is made, wherever it was cut
 pub text-made : {pieces : List (List ℕ)} {line file last : List ℕ} {reply : Made} → 1001 ≤ length line →
     TextCalls pieces line file reply last →
     (reply ≡ madeOf (flatten pieces) file) × (last ≡ madeFile (flatten pieces) file)
 text-made {pieces} {line} {file} room c =
-    let all : c .all ≡ bytesTaken (reading noText line file) (flatten pieces) =
-    take-calls-are room (c .taken)
-    ∙ ap (λ (m : Maker). bytesTaken (reading m line file) (flatten pieces)) (no-text-call-is (c .begun)) in (
+    let all = all-is room c in (
       finish-call-is (c .finished) .0 ∙ ap replyAt all ∙ text-reply (flatten pieces) line file room,
       finish-call-is (c .finished) .1 ∙ ap fileAt all ∙ text-file (flatten pieces) line file room,
     )
@@ -116,6 +128,26 @@ cut-anywhere {file = file} e l k c d =
       one .1 ∙ ap (λ (text : List ℕ). madeFile text file) e ∙ sym (two .1),
     )
 
+-- r is a reply of `is_settled` to this maker and line
+pub data SettledCall : Maker → List ℕ → Bool → Type 1 where
+  call : (κs : _) (a : _) (r : _) (x : _) → SettledReads.Post κs a r x → SettledCall (a .0) (a .1 .0 .now) r
+
+pub settled-call-is : {m : Maker} {line : List ℕ} {r : Bool} → SettledCall m line r → r ≡ isSettled m line
+settled-call-is (SettledCall.call κs a r x p) = p
+
+-- where `is_settled` says so behind the last piece, the text is made whatever follows it
+pub may-stop : {pieces : List (List ℕ)} {line file last : List ℕ} {reply : Made} → 1001 ≤ length line →
+    (c : TextCalls pieces line file reply last) → SettledCall (c .all .maker) (c .all .line) true →
+    (rest : List ℕ) →
+    (reply ≡ madeOf (flatten pieces ++ rest) file) × (last ≡ madeFile (flatten pieces ++ rest) file)
+may-stop {pieces} {line} {file} room c d rest =
+    let all = all-is room c in
+    let over : isSettled (taken-from line file pieces .maker) (taken-from line file pieces .line) ≡ true =
+    ap (λ (t : Reading). isSettled (t .maker) (t .line)) (sym all) ∙ sym (settled-call-is d) in (
+      finish-call-is (c .finished) .0 ∙ ap replyAt all ∙ stopped-reply (flatten pieces) line file room rest over,
+      finish-call-is (c .finished) .1 ∙ ap fileAt all ∙ stopped-file (flatten pieces) line file room rest over,
+    )
+
 -- there are such calls, with every argument
 pub no-text-call : NoTextCall noText
 no-text-call = NoTextCall.call tt tt noText tt refl
@@ -125,6 +157,9 @@ take-call s piece =
     let r = takeReply (s .maker) piece (s .line) (s .file) in
     TakeCall.call ([], ([], ([], tt))) (s .maker, (lent piece, (lent (s .line), (lent (s .file), tt)))) (r .maker)
     (s .maker, (lent piece, (lent (r .line), (lent (r .file), tt)))) refl
+
+pub settled-call : (m : Maker) (line : List ℕ) → SettledCall m line (isSettled m line)
+settled-call m line = SettledCall.call ([], tt) (m, (lent line, tt)) (isSettled m line) (m, (lent line, tt)) refl
 
 pub finish-call : (s : Reading) → FinishCall s (replyAt s) (fileAt s)
 finish-call s =

@@ -562,3 +562,24 @@ module _ (m : Maker) (line file : List ℕ) (over : isSettled m line ≡ true) (
   -- and so is the file, which stays as it was
   pub settled-file : fileAt longer-taken ≡ file
   settled-file = ⊎-elim (λ e. ap fileAt (bytes-stay text before e) ∙ over-file e) long-file which
+
+-- so who takes a text from nothing may stop where the outcome is settled, whatever the rest is
+module _ (text line file : List ℕ) (room : 1001 ≤ length line) (rest : List ℕ)
+    (over : isSettled (bytesTaken (reading noText line file) text .maker)
+    (bytesTaken (reading noText line file) text .line) ≡ true) where
+  abbrev stopped : Reading
+  stopped = bytesTaken (reading noText line file) text
+
+  pub stopped-reply : replyAt stopped ≡ madeOf (text ++ rest) file
+  stopped-reply =
+      sym (settled-reply (stopped .maker) (stopped .line) (stopped .file) over rest)
+      ∙ ap replyAt (sym (pieces-join (reading noText line file) text rest))
+      ∙ text-reply (text ++ rest) line file room
+
+  pub stopped-file : fileAt stopped ≡ madeFile (text ++ rest) file
+  unfolding bytesTaken
+  stopped-file =
+      settled-file (stopped .maker) (stopped .line) (stopped .file) over []
+      ∙ sym (settled-file (stopped .maker) (stopped .line) (stopped .file) over rest)
+      ∙ ap fileAt (sym (pieces-join (reading noText line file) text rest))
+      ∙ text-file (text ++ rest) line file room
