@@ -3,4 +3,7 @@ pub mod Stages
 pub mod Files
 pub mod Short
 pub mod Pieces
-pub mod Within
+pub mod Fits
+pub mod Follows
+pub mod Whole
+pub mod Calls

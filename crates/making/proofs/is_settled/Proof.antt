@@ -6,10 +6,9 @@ use mathlib.Core.List.{List}
 use Prim.Native.Nat.{ℕ, _≤_, _<_}
 use native.Mathlib.Omega.{arith}
 use lib.ListN.{length, take, length-take}
-use lib.Seq.{getD-take}
 use borrow.Author.Tests.{le-leb, lt-leb, lt-ltb, le-ltb}
-use Rattle.making.specs.Make.{isComment}
 use Rattle.making.specs.Text.{isSettled}
+use Rattle.making.proofs.Whole.{begins-so}
 use borrow.Author.Needs.{needs}
 use Rattle.making.proofs.is_settled.Statement.{statement}
 use Rattle.making.proofs.is_settled.Tie as tie
@@ -28,11 +27,6 @@ short kept line h = simp length-take (omega (arith, h))
 
 long : (kept : ℕ) (line : List ℕ) → 1000 < kept → 1000 < length line → 1000 < length (take kept line)
 long kept line h l = simp length-take (omega (arith, h, l))
-
--- it begins as the lent one does
-begins : (kept : ℕ) (line : List ℕ) → 1000 < kept → isComment (take kept line) ≡ isComment line
-unfolding isComment
-begins kept line h = rw (getD-take kept line 0 0 (omega (arith, h))) refl
 
 returns-2 : tie.Need-returns-2
 unfolding isSettled
@@ -58,7 +52,7 @@ returns-4 c =
     let a = d .before .before .before .before .before .before .args in
     let kept = a .maker .kept in
     let line = a .line .now in
-    ap not (c .is-comment .ensures ∙ sym (begins kept line (d .before .if2 .left)))
+    ap not (c .is-comment .ensures ∙ sym (begins-so kept line (omega (arith, d .before .if2 .left))))
     ∙ rw (
       lt-leb 3 _ (d .before .before .before .if1 .left),
       lt-ltb 1000 _ (long kept line (d .before .if2 .left) (d .if3 .left)),

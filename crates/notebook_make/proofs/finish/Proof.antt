@@ -2,7 +2,7 @@
 use mathlib.Core.Path.{ap}
 use native.Mathlib.Omega.{arith}
 use Rattle.making.specs.declared.Made.{Made}
-use Rattle.making.proofs.Within.{finish-within}
+use Rattle.making.proofs.Fits.{made-fits}
 use borrow.Author.Needs.{needs}
 use Rattle.notebook_make.proofs.finish.Statement.{statement}
 use Rattle.notebook_make.proofs.finish.Tie as tie
@@ -23,7 +23,7 @@ part-write-all-end c =
     omega (
       arith,
       ap (λ (r : Made). r .size) (made .finish .ensures .0),
-      finish-within (f .maker) (f .line .now) (f .file .now),
+      made-fits (f .maker) (f .line .now) (f .file .now),
       made .finish .kept,
     )
 
