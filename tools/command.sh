@@ -117,11 +117,11 @@ pass_output() {
     esac
     case $said in
     '') exit 0 ;;
-    "cannot write to standard output$newline") fail "cannot write to standard output" ;;
     esac
     last=${said%"$newline"}
     case $last in
     "$said" | *"$newline"*) ;; # it is not one whole line
+    "cannot read standard input" | "cannot write to standard output") fail "$last" ;;
     "refused "* | "line "*": "*)
         printf '%s\n' "$last" >&2
         exit 1
