@@ -1,12 +1,12 @@
 -- A line of 1,000 bytes has at most 1,000 numbers, so they fit where a line's numbers go; what is read of it then is
 -- all of it. Assumes nothing.
 use mathlib.Core.Path.{_≡_, refl, ap, _∙_}
-use mathlib.Core.Bool.{Bool, true, false, cond}
+use mathlib.Core.Bool.{Bool, true, false}
 use mathlib.Core.List.{List, [], _∷_}
-use Prim.Native.Nat.{ℕ, _-_, _≤_, _<_}
+use Prim.Native.Nat.{ℕ, _≤_, _<_}
 use native.Mathlib.Omega.{arith}
 use lib.Dec.{eqb}
-use lib.ListN.{length, getD, take, length-take}
+use lib.ListN.{length, take}
 use Rattle.counting.proofs.Bools.{either, cond-true, cond-false, and-left}
 use borrow.Author.Tests.{ltb-true}
 use mathlib.Core.Logic.{⊎-elim}
@@ -25,6 +25,7 @@ use Rattle.lines.specs.Read.{
   readReply,
   readWrites,
 }
+use Rattle.lines.proofs.Pieces.{bare-within}
 use Rattle.lines.proofs.Read.{read-nothing, read-given, read-front}
 
 behind-few : (text : List ℕ) → length (behind text) ≤ length text
@@ -48,14 +49,6 @@ unfolding values
 values-many [] = refl
 values-many (text ∷ texts) = omega (arith, values-many texts)
 
-bare-short : (line : List ℕ) → length (bare line) ≤ length line
-unfolding bare
-bare-short line = go (eqb (getD line (length line - 1) 0) 13)
-  where
-    go : (b : Bool) → length (cond b (take (length line - 1) line) line) ≤ length line
-    go true = simp length-take (omega arith)
-    go false = omega arith
-
 -- no more numbers than bytes
 pub numbers-few : (line : List ℕ) → length (numbersIn (bare line)) ≤ length line
 unfolding numbersIn saidIn
@@ -65,7 +58,7 @@ numbers-few line =
       values-many (nonEmpty (behind (bare line))),
       filled-few (behind (bare line)),
       behind-few (bare line),
-      bare-short line,
+      bare-within line,
     )
 
 -- so a line without a word is none, and one with a word is read whole

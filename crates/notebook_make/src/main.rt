@@ -1,6 +1,6 @@
 // Reads a text on standard input and writes its run file to standard output, or the line that tells what is wrong to
-// standard error. What it writes is the library's proved file or text. Part of a text makes another file, so that a read
-// that fails must not count as the end of the text.
+// standard error. What it writes is the library's proved file or text. Part of a text makes another file, so that a
+// read that fails must not count as the end of the text.
 //
 // 182,633 bytes are the largest file, 1,001 one more than a line may have, and 110 enough for what is told.
 use making::Maker;

@@ -2,24 +2,21 @@
 -- file has; how long the lines of a text can be; and the lines of the places of a table. Assumes nothing.
 use mathlib.Core.Path.{_≡_, refl, sym, ap, ap₂, _∙_}
 use mathlib.Core.Bool.{Bool, true, false, cond}
-use mathlib.Core.List.{List, [], _∷_, _++_}
-use mathlib.Core.Logic.{⊎-elim}
-use Prim.Native.Nat.{ℕ, zero, suc, _+_, _-_, _*_, _/_, _%_, _^_, _≤_, _<_}
-use native.Mathlib.Nat.{le-refl, mul-pos, mod-lt, div-lt-iff-lt-mul, suc-mul, mul-le-mul-right}
+use mathlib.Core.List.{List, [], _++_}
+use Prim.Native.Nat.{ℕ, zero, suc, _+_, _-_, _*_, _^_, _≤_, _<_}
+use native.Mathlib.Nat.{le-refl, suc-mul, mul-le-mul-right}
 use native.Mathlib.Decide.{ℕ-discrete}
 use native.Mathlib.Omega.{arith}
 use lib.Dec.{eqb, ltb}
 use lib.ListN.{length, getD, take, drop, length-drop}
-use borrow.Author.Tests.{lt-ltb, le-ltb, lt-leb, le-leb, ltb-true, ltb-false, eq-eqb, ne-eqb}
-use Rattle.counting.specs.Count.{sum}
-use Rattle.counting.proofs.Bools.{either, cond-true, cond-false}
+use borrow.Author.Tests.{lt-ltb, le-ltb, lt-leb, le-leb, ltb-false, eq-eqb, ne-eqb}
+use Rattle.counting.proofs.Bools.{cond-true, cond-false}
 use Rattle.counting.proofs.Build.{getD-build, front-take}
 use Rattle.sizes.specs.Sizes.{tableRows}
 use Rattle.sizes.proofs.Laws.{inside}
 use Rattle.lines.specs.declared.Written.{Written}
 use Rattle.lines.specs.Line.{lineOf, lineWrites, placed}
-use Rattle.lines.proofs.Decimal.{decimal-most, decimal-20}
-use Rattle.lines.proofs.Lines.{line-size, line-length, fields-most, line-given, line-written}
+use Rattle.lines.proofs.Lines.{line-length, fields-most, line-given, line-written}
 use Rattle.lines.proofs.Placed.{rest-whole, rest-none, placed-within}
 use Rattle.runfile.specs.File.{tableRow}
 use Rattle.runfile.specs.Reply.{tableRefusal, tableWrites}
@@ -37,7 +34,8 @@ use Rattle.listing.proofs.Heading.{
 }
 use Rattle.listing.proofs.Table.{table-good}
 use Rattle.listing.proofs.Ends.{ends-is}
-use Rattle.says.specs.Say.{rows-word, say-word, laterNumbers, sayNumbers, sayLine, sayReply, sayWrites}
+use Rattle.says.specs.Say.{rows-word, say-word, sayNumbers, sayLine, sayReply, sayWrites}
+use Rattle.says.proofs.Short.{say-short}
 use Rattle.showing.specs.Show.{
   placeText,
   placesText,
@@ -105,50 +103,8 @@ rows-most rows few fits =
 -- a place of a table: its line has at most 40 bytes
 module _ (n table place row : ℕ) (low : 1 ≤ n) (high : n ≤ 13) (few : table ≤ 4) (below : place < tableRows n)
     (fits : row < 2 ^ 64) where
-  -- one that is behind those of step 1
-  later-most : n * n ≤ place → length (lineOf say-word (laterNumbers n table (place - n * n) row)) ≤ 40
-  unfolding laterNumbers sum tableRows
-  later-most h =
-      let q = place - n * n in
-      let cube : 0 < n * n * n = mul-pos (mul-pos low low) low in
-      let step : q / (n * n * n) < 2 = div-lt-iff-lt-mul cube .1 (omega (arith, below)) in
-      let sender : q / (n * n) % n < n = mod-lt (q / (n * n)) low in
-      let receiver : q / n % n < n = mod-lt (q / n) low in
-      let leader : q % n < n = mod-lt q low in
-      omega (
-        arith,
-        line-size say-word (laterNumbers n table q row),
-        decimal-most 0 (table + 1) (omega arith),
-        decimal-most 0 (2 + q / (n * n * n)) (omega arith),
-        decimal-most 1 (1 + q / (n * n) % n) (omega arith),
-        decimal-most 1 (1 + q / n % n) (omega arith),
-        decimal-most 1 (1 + q % n) (omega arith),
-        decimal-20 row fits,
-      )
-
-  first-most : place < n * n →
-      length (lineOf say-word ((table + 1) ∷ 1 ∷ (1 + place / n) ∷ (1 + place % n) ∷ row ∷ [])) ≤ 40
-  unfolding sum
-  first-most h =
-      let sender : place / n < n = div-lt-iff-lt-mul low .1 h in
-      let receiver : place % n < n = mod-lt place low in
-      omega (
-        arith,
-        line-size say-word ((table + 1) ∷ 1 ∷ (1 + place / n) ∷ (1 + place % n) ∷ row ∷ []),
-        decimal-most 0 (table + 1) (omega arith),
-        decimal-most 0 1 (omega arith),
-        decimal-most 1 (1 + place / n) (omega arith),
-        decimal-most 1 (1 + place % n) (omega arith),
-        decimal-20 row fits,
-      )
-
   pub say-most : length (sayLine n table place row) ≤ 40
-  unfolding sayLine sayNumbers
-  say-most =
-      ⊎-elim
-      (λ t. rw t (first-most (ltb-true place (n * n) t)))
-      (λ f. rw f (later-most (ltb-false place (n * n) f)))
-      (either (ltb place (n * n)))
+  say-most = say-short n table place row high few below fits
 
   -- what the call that writes it says, over what lies from a place of the slice on
   pub say-size : (r : Written) (xs : List ℕ) (at : ℕ) → at + 40 ≤ length xs →
