@@ -4,8 +4,10 @@
 //
 // 182,633 bytes are the largest file, 1,001 one more than a line may have, and 110 enough for what is told.
 use making::Maker;
+ghost use mathlib.Core.Path.{_≡_};
 ghost use Prim.Native.Nat.{_≤_};
 ghost use lib.ListN.{length};
+ghost use Rattle.says.specs.Told.{toldText};
 
 // What one read gave: whether it failed, and how many bytes came. None is the end of the text.
 struct Piece {
@@ -52,11 +54,15 @@ fn take_text(text: &mut [u8], line: &mut [u8], file: &mut [u8]) -> Taken {
     }
 }
 
-// Tells a refusal or a fault; nothing where there is neither.
-fn tell(refusal: u8, line: u64, fault: u8) {
+// Tells a refusal or a fault; nothing where there is neither. Gives the size of what is told, so that its contract
+// says that all of it has room.
+fn tell(refusal: u8, line: u64, fault: u8) -> usize
+    ensures { λ r. ⌜ r ≡ length (toldText refusal line fault) ⌝ }
+{
     let mut told = [0u8; 110];
     let size = says::tell(refusal, line, fault, &mut told).size;
     io::write_all(libc::STDERR_FILENO, &told[0..size]);
+    size
 }
 
 // Ends the text and writes what comes of it. Where something is told the file is empty.

@@ -1,11 +1,13 @@
--- `notebook_make::tell` is safe and ends: what was written lies within the slice. Assumes nothing.
+-- `notebook_make::tell` is safe, ends and gives the size of the whole line: what is told has at most 110 bytes, and
+-- lies within the slice. Assumes nothing.
 use Prim.Native.Nat.{_≤_}
-use mathlib.Core.Path.{ap}
+use mathlib.Core.Path.{_≡_, refl, sym, ap, _∙_}
 use native.Mathlib.Omega.{arith}
 use lib.ListN.{length}
 use Rattle.lines.specs.declared.Written.{Written}
 use Rattle.says.specs.Told.{toldText}
-use Rattle.says.proofs.Faults.{text-within}
+use Rattle.says.proofs.Faults.{text-given, text-within}
+use Rattle.says.proofs.Short.{told-short}
 use borrow.Author.Needs.{needs}
 use Rattle.notebook_make.proofs.tell.Statement.{statement}
 use Rattle.notebook_make.proofs.tell.Tie as tie
@@ -39,8 +41,18 @@ part-write-all-end c = written (c .before .before)
 write-all-requires : tie.Need-write-all-requires
 write-all-requires c κs = search needs
 
+-- all of it was written
+whole : (c : tie.After-tell) →
+    let f = c .before .before .args in
+    c .tell .result .size ≡ length (toldText (f .refusal) (f .line) (f .fault))
+whole c =
+    let a = c .before .before in
+    let f = a .args in
+    let short = told-short (f .refusal) (f .line) (f .fault) (a .fits .refusal .fits) (a .fits .line .fits) in
+    ap (λ (w : Written). w .size) (c .tell .ensures .0 ∙ sym (text-given (toldText (f .refusal) (f .line) (f .fault)) 110 _ refl short))
+
 returns : tie.Need-returns
-returns c = search needs
+returns c = whole (c .before .before .before .before)
 
 pub tell-spec : {M : Type 1} → statement M
 tell-spec =

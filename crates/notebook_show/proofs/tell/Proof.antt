@@ -1,12 +1,14 @@
--- `notebook_show::tell` is safe and ends: what was written lies within the line. Assumes nothing.
+-- `notebook_show::tell` is safe, ends and gives the size of the whole line: what is told has at most 110 bytes, and
+-- lies within the line. Assumes nothing.
 use Prim.Native.Nat.{_≤_}
-use mathlib.Core.Path.{sym, ap}
+use mathlib.Core.Path.{_≡_, refl, sym, ap, _∙_}
 use native.Mathlib.Omega.{arith}
 use lib.ListN.{length}
 use lib.Seq.{length-take-le}
 use Rattle.lines.specs.declared.Written.{Written}
 use Rattle.says.specs.Told.{toldText}
-use Rattle.says.proofs.Faults.{text-within}
+use Rattle.says.proofs.Faults.{text-given, text-within}
+use Rattle.says.proofs.Short.{told-short}
 use borrow.Author.Needs.{needs}
 use Rattle.notebook_show.proofs.tell.Statement.{statement}
 use Rattle.notebook_show.proofs.tell.Tie as tie
@@ -36,8 +38,18 @@ slice-aggregate-write-all c = sym (length-take-le _ _ (written (c .before .befor
 write-all-requires : tie.Need-write-all-requires
 write-all-requires c κs = search needs
 
+-- all of it was written
+whole : (c : tie.After-tell) →
+    let f = c .before .before .args in
+    c .tell .result .size ≡ length (toldText (f .refusal) 0 0)
+whole c =
+    let a = c .before .before in
+    let f = a .args in
+    let short = told-short (f .refusal) 0 0 (a .fits .refusal .fits) (omega arith) in
+    ap (λ (w : Written). w .size) (c .tell .ensures .0 ∙ sym (text-given (toldText (f .refusal) 0 0) 110 _ refl short))
+
 returns : tie.Need-returns
-returns c = search needs
+returns c = whole (c .before .before .before)
 
 pub tell-spec : {M : Type 1} → statement M
 tell-spec =
