@@ -144,7 +144,8 @@ module _ {n t faulty : ℕ} {rows slice last : List ℕ} {r : Wrote} (c : WriteH
 
   pub heading-size : r .size ≡ headingBytes n
   heading-size =
-      ap (λ (w : Wrote). w .size) (write-heading-call-is c .0) ∙ write-heading-size n t faulty rows slice heading-taken
+      ap (λ (w : Wrote). w .size) (write-heading-call-is c .0)
+      ∙ write-heading-size n t faulty rows slice heading-taken
 
   pub heading-text : take (r .size) last ≡ headingFile n t faulty rows
   heading-text =
@@ -164,7 +165,8 @@ module _ {n : ℕ} {rows slice last : List ℕ} {r : Wrote} (c : WriteTableCall 
   table-text = ap₂ take table-size (write-table-call-is c .1) ∙ write-table-front n rows slice table-taken
 
 -- a heading, written and then read: bytes that begin with the ones written give the same n, t, faulty set and rows
-pub written-heading-reads : {n t faulty : ℕ} {rows out written bytes slice last : List ℕ} {w : Wrote} {h : Heading} →
+pub written-heading-reads : {n t faulty : ℕ} {rows out written bytes slice last : List ℕ} {w : Wrote}
+    {h : Heading} →
     WriteHeadingCall n t faulty rows out w written → w .refusal ≡ 0 → AllRows rows →
     take (w .size) bytes ≡ take (w .size) written → ReadHeadingCall bytes slice h last → n ≤ length slice →
     (h ≡ record { refusal = 0; version = 1; n = n; t = t; faulty = faulty }) × (take n last ≡ rows)
@@ -178,7 +180,8 @@ written-heading-reads {n} {t} {faulty} {rows} {out} {bytes = bytes} {slice = sli
     )
 
 -- what an accepted call of the heading reader gave
-module _ {bytes slice last : List ℕ} {h : Heading} (d : ReadHeadingCall bytes slice h last) (ok : h .refusal ≡ 0) where
+module _ {bytes slice last : List ℕ} {h : Heading} (d : ReadHeadingCall bytes slice h last)
+    (ok : h .refusal ≡ 0) where
   heading-passed : headingRefusal bytes (length slice) ≡ 0
   heading-passed =
       sym (heading-number bytes (length slice))
@@ -231,7 +234,8 @@ module _ {bytes slice last : List ℕ} {h : Heading} (d : ReadHeadingCall bytes 
         ∙ ap₂ (λ (n faulty : ℕ). headingFile n (h .t) faulty (take (h .n) last)) n-says faulty-says
         ∙ heading-again bytes (length slice) (heading-readable bytes (length slice) heading-passed) all (h .t)
         (take (h .n) last) given-rows
-        ∙ ap (λ (m : ℕ). set (take m bytes) 6 (h .t)) (sym (heading-size c again-passes ∙ ap headingBytes n-says))
+        ∙ ap (λ (m : ℕ). set (take m bytes) 6 (h .t))
+        (sym (heading-size c again-passes ∙ ap headingBytes n-says))
 
     again-same : (tByte bytes ≡ 255 → ⊥) → take (w .size) written ≡ take (w .size) bytes
     again-same other =
@@ -245,8 +249,11 @@ module _ {bytes slice last : List ℕ} {h : Heading} (d : ReadHeadingCall bytes 
 -- the place of the t byte
 pub read-heading-writes : {bytes slice last out written : List ℕ} {h : Heading} {w : Wrote} →
     ReadHeadingCall bytes slice h last → h .refusal ≡ 0 → AllBytes bytes →
-    WriteHeadingCall (h .n) (h .t) (h .faulty) (take (h .n) last) out w written → headingBytes (h .n) ≤ length out →
-    (w .refusal ≡ 0) × (w .size ≡ headingBytes (h .n)) × (take (w .size) written ≡ set (take (w .size) bytes) 6 (h .t))
+    WriteHeadingCall (h .n) (h .t) (h .faulty) (take (h .n) last) out w written →
+    headingBytes (h .n) ≤ length out →
+    (w .refusal ≡ 0) ×
+    (w .size ≡ headingBytes (h .n)) ×
+    (take (w .size) written ≡ set (take (w .size) bytes) 6 (h .t))
 read-heading-writes d ok all c enough =
     let passes = again-passes d ok all c enough in
     (passes, heading-size c passes, again-text d ok all c enough)
@@ -254,14 +261,16 @@ read-heading-writes d ok all c enough =
 -- where the t byte is not 255 they are exactly the file's
 pub read-heading-writes-same : {bytes slice last out written : List ℕ} {h : Heading} {w : Wrote} →
     ReadHeadingCall bytes slice h last → h .refusal ≡ 0 → AllBytes bytes →
-    WriteHeadingCall (h .n) (h .t) (h .faulty) (take (h .n) last) out w written → headingBytes (h .n) ≤ length out →
+    WriteHeadingCall (h .n) (h .t) (h .faulty) (take (h .n) last) out w written →
+    headingBytes (h .n) ≤ length out →
     (tByte bytes ≡ 255 → ⊥) → take (w .size) written ≡ take (w .size) bytes
 read-heading-writes-same d ok all c enough other = again-same d ok all c enough other
 
 -- a table, written and then read: the bytes written give the same rows
 pub written-table-reads : {n r : ℕ} {rows out written bytes slice last : List ℕ} {w : Wrote} →
     WriteTableCall n rows out w written → w .refusal ≡ 0 → AllRows rows → bytes ≡ take (w .size) written →
-    ReadTableCall n bytes slice r last → tableRows n ≤ length slice → (r ≡ 0) × (take (tableRows n) last ≡ rows)
+    ReadTableCall n bytes slice r last → tableRows n ≤ length slice →
+    (r ≡ 0) × (take (tableRows n) last ≡ rows)
 written-table-reads {n} {r} {rows} {out} {slice = slice} {last = last} c ok small whole d enough =
     let a = write-table-accepted n rows (length out) (table-taken c ok) in
     let text = whole ∙ table-text c ok in
