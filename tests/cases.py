@@ -84,6 +84,18 @@ def two_boxes():
     yield steps_bytes(2, 0, 0, [5, 6], [1], Table(2).rows), steps_line(6, [0, 6, 0, 6], [0, 2, 0, 2])
 
 
+def most_messages():
+    """A state with the most messages there can be, and one more: case S, where an iteration sends at most 108, and
+    thirteen sound boxes, who send 4,212 in each. For four boxes 144 is the number of a table's rows."""
+    rows, lists, table = [10, 20, 10], [8, 8, 8], Table(4)
+    yield iteration(4, 1, 8, 1, 108, rows, lists, table), state_line("iteration", 0, 4, 1, 8, 2, 171, [10] * 3, lists)
+    for sent in (109, 144, 145):
+        due = state_line("iteration", 14, 4, 1, 8, 1, sent, rows, lists)
+        yield iteration(4, 1, 8, 1, sent, rows, lists, table), due
+    for sent, due in ((16848, (0, 13, 4, 0, 5, 21060)), (16849, (14, 13, 4, 0, 4, 16849))):
+        yield iteration(13, 4, 0, 4, sent, [3] * 13, [], Table(13)), state_line("iteration", *due, [3] * 13, [])
+
+
 def wide_states():
     """A row of 2^32 is a sound box's row like any other, and is not nothing in an unused or a faulty place."""
     one = [5]
@@ -212,7 +224,7 @@ def files():
 
 
 def all_cases():
-    for part in (votes_and_grades, choices, sizes, iterations, two_boxes, wide_states, constants, tests, steps, lines,
-                 parts, files):
+    for part in (votes_and_grades, choices, sizes, iterations, two_boxes, most_messages, wide_states, constants, tests,
+                 steps, lines, parts, files):
         for data, line_due in part():
             yield Request(data, "written by hand", None, line_due)
