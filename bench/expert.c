@@ -253,7 +253,7 @@ static void iterate(struct run *run, const uint8_t *table)
         finish_box(run, i, third, votes);
         run->listed |= run->list[i];
     }
-    run->sent += n * rows;
+    run->sent += (n - 1) * rows; /* each row goes to all boxes but its sender */
     run->done++;
 }
 

@@ -191,6 +191,13 @@ enum refusal start(uint8_t n, uint8_t t, uint16_t faulty, const uint64_t *rows, 
     return FINE;
 }
 
+/* The most that one iteration sends: each of n boxes to n - 1 others, in step 1 its row, in steps 2 and 3 one for each
+   leader. A table has more rows, those from a box to itself too. */
+static uint64_t most_messages(unsigned n)
+{
+    return (uint64_t)n * (n - 1) * (1 + 2 * n);
+}
+
 static int state_is_wrong(const struct state *state)
 {
     for (unsigned i = 0; i < MOST_BOXES; i++) {
@@ -200,7 +207,7 @@ static int state_is_wrong(const struct state *state)
         if (has_stray_bit(state->n, state->list[i]))
             return 1;
     }
-    return state->sent > state->done * (uint64_t)table_rows(state->n);
+    return state->sent > state->done * most_messages(state->n);
 }
 
 static enum refusal check_iteration(const struct state *state, size_t count)
@@ -219,10 +226,16 @@ static enum refusal check_iteration(const struct state *state, size_t count)
     return FINE;
 }
 
-/* Each non-zero row that a sound box sends goes to all n boxes, itself among them. */
+/* A box does not radio to itself: a row goes to the others, faulty ones too. What it says to itself it still hears. */
+static unsigned receivers(unsigned n)
+{
+    return n - 1;
+}
+
+/* Each non-zero row that a sound box sends is one message to each receiver. */
 static uint64_t messages_of(const uint64_t *rows, unsigned n)
 {
-    return (uint64_t)n * (n - places_of(rows, n, 0));
+    return (uint64_t)receivers(n) * (n - places_of(rows, n, 0));
 }
 
 /* What box i hears in step 1: heard[k] from box k. */
@@ -261,7 +274,7 @@ static uint64_t step_one(const struct state *state, const uint64_t *table, sendi
         if (in_set(state->faulty, i))
             continue;
         hear_rows(state, table, i, first[i]);
-        unsigned own = state->row[i] != 0 ? n : 0;
+        unsigned own = state->row[i] != 0 ? receivers(n) : 0;
         sent += own + messages_of(first[i], n);
     }
     return sent;

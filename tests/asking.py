@@ -9,8 +9,8 @@ import calls
 import further
 import makers
 import texts
-from calls import PLACES, Request, packed, state_bytes
-from runfiles import TOP, Table, heading_bytes, largest_t, table_rows
+from calls import PLACES, Request, most_messages, packed, pick_faulty, state_bytes, state_line
+from runfiles import TOP, Table, bits, heading_bytes, largest_t, table_rows
 
 # In the order of their kinds.
 CALLS = {"vote": calls.Vote, "grade": calls.Grade, "choice": calls.Choice, "start": calls.Start,
@@ -201,6 +201,39 @@ def wide_numbers(rng):
         for sent in (2**32, 2**32 + 1, 2**33 + n, 2**63):
             yield Request(wide_state(n, n - 1, 7, 0, sent), "wide number of messages", 14)
             yield Request(wide_state(n, n - 1, 7, largest_t(n), sent), "wide number of messages", 14)
+
+
+def edges_of_messages(rng):
+    """For every n, every t that passes and from 0 to t iterations done: the most messages that a state may hold, which
+    pass, and one more."""
+    for n in range(1, PLACES + 1):
+        for t in range(largest_t(n) + 1):
+            for done in range(t + 1):
+                yield from most_of_all_sound(rng, n, t, done)
+                yield from most_of_any(rng, n, t, done)
+
+
+def most_of_all_sound(rng, n, t, done):
+    """With no faulty box and one row the whole reply is known: once more as many are sent as may be."""
+    most, rows = most_messages(n), [rng.choice((1, 7, 2**32, TOP))] * n
+    for sent, refusal, after in ((done * most, 0, (done + 1, (done + 1) * most)),
+                                 (done * most + 1, 14, (done, done * most + 1))):
+        state = state_bytes(n, t, 0, done, sent, rows, [])
+        yield Request(b"\5" + state + table_of(n), about_messages(refusal), refusal,
+                      state_line("iteration", refusal, n, t, 0, *after, rows, []))
+
+
+def most_of_any(rng, n, t, done):
+    """The limit is the same whatever boxes are faulty."""
+    boxes = pick_faulty(rng, n)
+    rows = [0 if k in boxes else rng.randrange(1, 9) for k in range(n)]
+    for more, refusal in ((0, 0), (1, 14)):
+        state = state_bytes(n, t, bits(boxes), done, done * most_messages(n) + more, rows, [])
+        yield Request(b"\5" + state + table_of(n), about_messages(refusal), refusal)
+
+
+def about_messages(refusal):
+    return "one message too many" if refusal else "as many messages as may be"
 
 
 def too_long():

@@ -46,6 +46,11 @@ def state_bytes(n, t, faulty, done, sent, rows, lists):
     return struct.pack(">BBHBQ13Q13H", n, t, faulty, done, sent, *rows, *lists)
 
 
+def most_messages(n):
+    """The most that one iteration sends: each of n boxes to n - 1 others, one row and then twice n of them."""
+    return n * (n - 1) * (1 + 2 * n)
+
+
 def packed(rows):
     return struct.pack(f">{len(rows)}Q", *rows)
 
@@ -183,7 +188,7 @@ class Iteration(Call):
         self.boxes = pick_faulty(rng, self.n)
         self.faulty = bits(self.boxes)
         self.done = rng.randrange(self.t + 1)
-        most = self.done * table_rows(self.n)
+        most = self.done * most_messages(self.n)
         self.sent = rng.choice((most, rng.randrange(most + 1)))
         self.rows, self.lists = [0] * PLACES, [0] * PLACES
         rows = rng.choice((some_rows, high_rows))(rng, self.n)
@@ -257,8 +262,11 @@ class Iteration(Call):
         self.lists[at] = rng.choice((1, 1 << at, (1 << self.n) - 1))
 
     def break_messages(self, rng):
-        most = self.done * table_rows(self.n)
-        self.sent = rng.choice((most + 1, most + table_rows(self.n), most + 2**32, TOP))
+        """One too many, as many as one more iteration could send, as many as the tables have rows, one more than that,
+        and far too many. Where that is not too many, as where no iteration is done, it is left out."""
+        most, rows = self.done * most_messages(self.n), self.done * table_rows(self.n)
+        counts = most + 1, most + most_messages(self.n), rows, rows + 1, most + 2**32, TOP
+        self.sent = rng.choice([count for count in counts if count > most])
 
     def break_12(self, rng):
         self.done = rng.choice((self.t + 1, self.t + 1, self.t + 2, 255))

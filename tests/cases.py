@@ -60,13 +60,40 @@ def iteration(n, t, faulty, done, sent, rows, lists, table):
 
 
 def iterations():
-    """Case S, first 100 messages and then 84, and a third iteration, which is one too many."""
+    """Case S, first 75 messages and then 63, and a third iteration, which is one too many."""
     steps = ([10, 20, 30], []), ([10, 20, 10], [8, 8, 8]), ([10, 10, 10], [8, 8, 8])
-    sent = 0, 100, 184
+    sent = 0, 75, 138
     for done, table in enumerate((case_s_table(), Table(4))):
         yield (iteration(4, 1, 8, done, sent[done], *steps[done], table),
                state_line("iteration", 0, 4, 1, 8, done + 1, sent[done + 1], *steps[done + 1]))
-    yield (iteration(4, 1, 8, 2, 184, *steps[2], Table(4)), state_line("iteration", 12, 4, 1, 8, 2, 184, *steps[2]))
+    yield (iteration(4, 1, 8, 2, 138, *steps[2], Table(4)), state_line("iteration", 12, 4, 1, 8, 2, 138, *steps[2]))
+
+
+def two_boxes():
+    """Few enough that each message can be counted: each goes from one box to the other."""
+    # Both sound: one row each in step 1, two each in steps 2 and 3. That is the most there can be.
+    yield (iteration(2, 0, 0, 0, 0, [5, 6], [], Table(2)), state_line("iteration", 0, 2, 0, 0, 1, 10, [5, 5], []))
+    # Box 2 faulty and silent: box 1 sends its row, then sends it on, and has no vote. It lists both.
+    yield (iteration(2, 0, 2, 0, 0, [5], [], Table(2)), state_line("iteration", 0, 2, 0, 2, 1, 2, [5], [3]))
+    # Box 2 faulty and always with 9: box 1 sends 5, then 5 and 9, then its vote 9 on box 2; it grades both with 9.
+    nines = Table(2, lambda: 9)
+    yield (iteration(2, 0, 2, 0, 0, [5], [], nines), state_line("iteration", 0, 2, 0, 2, 1, 4, [9], []))
+    # Before the first iteration no message can have been sent.
+    yield (iteration(2, 0, 0, 0, 1, [5, 6], [], Table(2)), state_line("iteration", 14, 2, 0, 0, 0, 1, [5, 6], []))
+    # Box 1 stands on its own list: it sends 5, sends on 6 alone and has no vote. Box 2 sends 6, then 5 and 6, then 6.
+    yield steps_bytes(2, 0, 0, [5, 6], [1], Table(2).rows), steps_line(6, [0, 6, 0, 6], [0, 2, 0, 2])
+
+
+def most_messages():
+    """A state with the most messages there can be, and one more: case S, where an iteration sends at most 108, and
+    thirteen sound boxes, who send 4,212 in each. For four boxes 144 is the number of a table's rows."""
+    rows, lists, table = [10, 20, 10], [8, 8, 8], Table(4)
+    yield iteration(4, 1, 8, 1, 108, rows, lists, table), state_line("iteration", 0, 4, 1, 8, 2, 171, [10] * 3, lists)
+    for sent in (109, 144, 145):
+        due = state_line("iteration", 14, 4, 1, 8, 1, sent, rows, lists)
+        yield iteration(4, 1, 8, 1, sent, rows, lists, table), due
+    for sent, due in ((16848, (0, 13, 4, 0, 5, 21060)), (16849, (14, 13, 4, 0, 4, 16849))):
+        yield iteration(13, 4, 0, 4, sent, [3] * 13, [], Table(13)), state_line("iteration", *due, [3] * 13, [])
 
 
 def wide_states():
@@ -77,7 +104,7 @@ def wide_states():
         yield iteration(1, 0, 0, 0, 0, rows, [], Table(1)), state_line("iteration", 14, 1, 0, 0, 0, 0, rows, [])
     yield iteration(2, 0, 2, 0, 0, [5, TANK], [], Table(2)), state_line("iteration", 14, 2, 0, 2, 0, 0, [5, TANK], [])
     yield iteration(1, 0, 0, 0, TANK, one, [], Table(1)), state_line("iteration", 14, 1, 0, 0, 0, TANK, one, [])
-    yield iteration(1, 0, 0, 0, 0, [TANK], [], Table(1)), state_line("iteration", 0, 1, 0, 0, 1, 3, [TANK], [])
+    yield iteration(1, 0, 0, 0, 0, [TANK], [], Table(1)), state_line("iteration", 0, 1, 0, 0, 1, 0, [TANK], [])
     yield struct.pack(">BBBHB", 4, 1, 0, 0, 1) + packed([TANK]), state_line("start", 0, 1, 0, 0, 0, 0, [TANK], [])
 
 
@@ -111,16 +138,16 @@ def tests():
 def steps():
     """Both iterations of case S: box 2 alone grades leader 4 with a row, at confidence 1."""
     rows, firm = [10, 20, 30, 0, 10, 20, 30, 20, 10, 20, 30, 0], [2, 2, 2, 0, 2, 2, 2, 1, 2, 2, 2, 0]
-    first = steps_line(100, rows, firm)
+    first = steps_line(75, rows, firm)
     table = case_s_table().rows
     yield steps_bytes(4, 1, 8, [10, 20, 30], [], table), first
     # A faulty box's row and list, stray bits and rows above n count for nothing.
     yield steps_bytes(4, 1, 0xfff8, [10, 20, 30, 7, TANK], [16, 0x8000, 0xfff0, 15, 1], table), first
-    again = steps_line(84, [10, 20, 10, 0] * 3, [2, 2, 2, 0] * 3)
+    again = steps_line(63, [10, 20, 10, 0] * 3, [2, 2, 2, 0] * 3)
     yield steps_bytes(4, 1, 8, [10, 20, 10], [8, 8, 8], Table(4).rows), again
-    # A box alone: three messages; one where it does not hear itself; none where it has no row.
-    yield steps_bytes(1, 0, 0, [5], [0], [0, 0, 0]), steps_line(3, [5], [2])
-    yield steps_bytes(1, 0, 0, [5], [1], [0, 0, 0]), steps_line(1, [], [])
+    # A box alone has nobody to send to: it hears itself, or does not, or has no row, and there is no message.
+    yield steps_bytes(1, 0, 0, [5], [0], [0, 0, 0]), steps_line(0, [5], [2])
+    yield steps_bytes(1, 0, 0, [5], [1], [0, 0, 0]), steps_line(0, [], [])
     yield steps_bytes(1, 0, 0, [0], [0], [9, 9, 9]), steps_line(0, [], [])
     # A faulty box alone: nobody sends and nobody grades.
     yield steps_bytes(1, 0, 1, [5], [0], [9, 9, 9]), steps_line(0, [], [])
@@ -162,7 +189,7 @@ def parts():
 
 
 CASE_S = ("run 4 1 8\nat 1 1 10 8\nat 1 2 20 8\nat 1 3 10 8\n"
-          "at 2 1 10 8\nat 2 2 10 8\nat 2 3 10 8\nsent 184\n")
+          "at 2 1 10 8\nat 2 2 10 8\nat 2 3 10 8\nsent 138\n")
 
 
 def case_s_file():
@@ -184,12 +211,12 @@ def files():
     data = case_s_file()
     one = heading_bytes(1, 255, 0, [5]) + bytes(24)
     yield from listing(data, CASE_S, 0)
-    yield from listing(data + b"\0", CASE_S.replace("sent 184", "refused 8"), 8)
+    yield from listing(data + b"\0", CASE_S.replace("sent 138", "refused 8"), 8)
     yield from listing(data[:-1], CASE_S[:CASE_S.index("at 2")] + "refused 8\n", 8)
-    yield from listing(one, "run 1 0 0\nat 1 1 5 0\nsent 3\n", 0)
+    yield from listing(one, "run 1 0 0\nat 1 1 5 0\nsent 0\n", 0)
     yield from listing(b"", "refused 1\n", 1)
     yield from listing(heading_bytes(3, 1, 8, []), "refused 5\n", 5)
-    for asked, due in ((data, (0, 4, 1, 8, 2, 184, [10, 10, 10], [8, 8, 8])), (one, (0, 1, 0, 0, 1, 3, [5], [])),
+    for asked, due in ((data, (0, 4, 1, 8, 2, 138, [10, 10, 10], [8, 8, 8])), (one, (0, 1, 0, 0, 1, 0, [5], [])),
                        (data + b"\0", (8, 0, 0, 0, 0, 0, [], [])), (data[:-1], (8, 0, 0, 0, 0, 0, [], [])),
                        (data[:9 + 32], (8, 0, 0, 0, 0, 0, [], [])), (b"", (1, 0, 0, 0, 0, 0, [], []))):
         yield struct.pack(">BI", 19, len(asked)) + asked, state_line("outcome", *due)
@@ -197,7 +224,7 @@ def files():
 
 
 def all_cases():
-    for part in (votes_and_grades, choices, sizes, iterations, wide_states, constants, tests, steps, lines, parts,
-                 files):
+    for part in (votes_and_grades, choices, sizes, iterations, two_boxes, most_messages, wide_states, constants, tests,
+                 steps, lines, parts, files):
         for data, line_due in part():
             yield Request(data, "written by hand", None, line_due)

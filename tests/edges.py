@@ -44,14 +44,15 @@ def silent_listing(run, row):
 
     Where the sound boxes are enough for a vote, every sound leader gets confidence 2 from all and each faulty one
     confidence 0: its bit stands on all lists, and the same is sent each time. Where they are not enough, no vote is
-    cast, everybody lists everybody, and from then on the sound boxes' rows are all that is sent.
+    cast, everybody lists everybody, and from then on the sound boxes' rows are all that is sent. Each row goes to the
+    n - 1 others.
     """
     n, t, sound = run.n, run.t, run.sound()
-    count = len(sound)
+    count, others = len(sound), run.n - 1
     if count >= n - t:
-        listed, sent = bits(run.faulty), (t + 1) * n * (count + 2 * count**2)
+        listed, sent = bits(run.faulty), (t + 1) * others * (count + 2 * count**2)
     else:
-        listed, sent = 2**n - 1, (t + 1) * n * count + n * count**2
+        listed, sent = 2**n - 1, (t + 1) * others * count + others * count**2
     lines = [f"run {n} {t} {bits(run.faulty)}"]
     lines += [f"at {i} {box + 1} {row} {listed}" for i in range(1, t + 2) for box in sound]
     return "".join(line + "\n" for line in (*lines, f"sent {sent}")).encode()

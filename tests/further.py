@@ -195,12 +195,13 @@ def steps_bytes(n, t, faulty, rows, lists, table):
 
 def known_steps(rng):
     """Where no box is faulty and no list has a box, all boxes hear the same. Each row that is not 0 then has
-    confidence 2, and all n send it on to all n, twice. Where every box is on every list, step 1 alone sends rows."""
+    confidence 2, and all n send it on to the n - 1 others, twice. Where every box is on every list, step 1 alone sends
+    rows."""
     for n in range(1, PLACES + 1):
         for t in range(largest_t(n) + 1):
             rows = [rng.choice((0, row, row)) for row in rng.choice((some_rows(rng, n), [TOP] * n, [2**32] * n))]
             table = [rng.randrange(TOP + 1)] * table_rows(n)
-            first = n * (n - rows.count(0))
+            first = (n - 1) * (n - rows.count(0))
             firm = [2 if row else 0 for row in rows]
             stray = 2**16 - (1 << n)
             yield Request(steps_bytes(n, t, stray, rows, [stray] * PLACES, table), "steps without faults", 0,
