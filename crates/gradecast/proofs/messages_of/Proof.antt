@@ -1,7 +1,7 @@
--- `gradecast::messages_of` meets its contract: the rows, the cells of step 2 and the cells of step 3 that are not 0, n
--- times, are the messages. Assumes nothing.
+-- `gradecast::messages_of` meets its contract: the rows, the cells of step 2 and the cells of step 3 that are not 0,
+-- n − 1 times, are the messages. Assumes nothing.
 use mathlib.Core.Path.{sym, ap, ap₂, _∙_}
-use Prim.Native.Nat.{ℕ, _+_, _*_, _≤_}
+use Prim.Native.Nat.{ℕ, _+_, _-_, _*_, _≤_}
 use native.Mathlib.Nat.{mul-le-mul-right}
 use native.Mathlib.Omega.{arith}
 use Rattle.sizes.proofs.Laws.{square-le}
@@ -30,24 +30,24 @@ first-small : (c : tie.After-sent-in) → first c .sent-in-step1 .result + c .se
 first-small c =
     let s = start (first c) in
     let p = s .pre in
-    let size = length-filled (s .args .second .now) (p .0) (p .1) in
-    omega (arith, square-le (p .0), p .0, first c .sent-in-step1 .ensures .1, c .sent-in .ensures .1, size)
+    let size = length-filled (s .args .second .now) (p .1) (p .2) in
+    omega (arith, square-le (p .1), p .1, first c .sent-in-step1 .ensures .1, c .sent-in .ensures .1, size)
 
 all-small : (c : tie.After-sent-in2) → boxes c ≤ 351
 all-small c =
     let s = start (first (second c)) in
     let p = s .pre in
-    let size = length-filled (s .args .third .now) (p .0) (p .2) in
-    omega (arith, square-le (p .0), first-small (second c), c .sent-in2 .ensures .1, size)
+    let size = length-filled (s .args .third .now) (p .1) (p .3) in
+    omega (arith, square-le (p .1), first-small (second c), c .sent-in2 .ensures .1, size)
 
 mul-size : tie.Need-mul-size
-mul-size c = omega (arith, square-le (c .before .before .pre .0))
+mul-size c = omega (arith, square-le (c .before .before .pre .1))
 
 sent-in-step1-requires : tie.Need-sent-in-step1-requires
 sent-in-step1-requires c κs = search needs
 
 slice-aggregate-sent-in : tie.Need-slice-aggregate-sent-in
-slice-aggregate-sent-in c = let p = start (c .before) .pre in sym (length-filled _ (p .0) (p .1))
+slice-aggregate-sent-in c = let p = start (c .before) .pre in sym (length-filled _ (p .1) (p .2))
 
 sent-in-requires : tie.Need-sent-in-requires
 sent-in-requires c κs = search needs
@@ -56,7 +56,7 @@ add-boxes : tie.Need-add-boxes
 add-boxes c = omega (arith, first-small c)
 
 slice-aggregate-sent-in-2 : tie.Need-slice-aggregate-sent-in-2
-slice-aggregate-sent-in-2 c = let p = start (first (c .before)) .pre in sym (length-filled _ (p .0) (p .2))
+slice-aggregate-sent-in-2 c = let p = start (first (c .before)) .pre in sym (length-filled _ (p .1) (p .3))
 
 sent-in-requires-2 : tie.Need-sent-in-requires-2
 sent-in-requires-2 c κs = search needs
@@ -64,17 +64,21 @@ sent-in-requires-2 c κs = search needs
 add-boxes-2 : tie.Need-add-boxes-2
 add-boxes-2 c = omega (arith, all-small c)
 
+sub-result : tie.Need-sub-result
+sub-result c = start (first (second c)) .pre .0
+
 mul-result : tie.Need-mul-result
 mul-result c =
-    let high = start (first (second c)) .pre .0 in
-    omega (arith, mul-le-mul-right (boxes c) high, all-small c)
+    let p = start (first (second c)) .pre in
+    let others : start (first (second c)) .args .settings .n - 1 ≤ 12 = omega (arith, p .1) in
+    omega (arith, mul-le-mul-right (boxes c) others, all-small c)
 
 returns : tie.Need-returns
 returns c =
     λ lists table e₂ e₃.
     let a = start (first (second c)) .args in
     let two = ap₂ _+_ (first (second c) .sent-in-step1 .ensures .0) (second c .sent-in .ensures .0) in
-    ap (λ (m : ℕ). a .settings .n * m) (ap₂ _+_ two (c .sent-in2 .ensures .0))
+    ap (λ (m : ℕ). (a .settings .n - 1) * m) (ap₂ _+_ two (c .sent-in2 .ensures .0))
     ∙ messages-counted (a .settings) (a .rows .now) lists table _ _ e₂ e₃
 
 pub messages-of-spec : {M : Type 1} → statement M
@@ -89,5 +93,6 @@ messages-of-spec =
     slice-aggregate-sent-in-2
     sent-in-requires-2
     add-boxes-2
+    sub-result
     mul-result
     returns)
