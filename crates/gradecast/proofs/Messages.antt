@@ -20,8 +20,7 @@ module _ (n t faulty : ℕ) (rows lists table : List ℕ) where
 
   -- a sender that is sound or not, to a box that receives or not
   parted : (b c : Bool) (x : ℕ) → cond (b && c) x 0 ≡ cond c (cond b x 0) 0
-  parted true true x = refl
-  parted true false x = refl
+  parted true c x = refl
   parted false true x = refl
   parted false false x = refl
 
