@@ -56,7 +56,6 @@ module _ (n t faulty : ℕ) (rows lists table : List ℕ) where
 
   -- one iteration keeps within its limit
   pub messages-bound : messages n t faulty rows lists table ≤ messageLimit n
-  unfolding messageLimit
   messages-bound =
       rw messages-quick
       (subst (λ (m : ℕ). (n - 1) * sum n by-one ≤ m) size
@@ -70,7 +69,6 @@ module _ (n t faulty : ℕ) (rows lists table : List ℕ) where
 
 -- the limit of a run's largest number of boxes
 pub limit-le : {n : ℕ} → n ≤ 13 → messageLimit n ≤ 4212
-unfolding messageLimit
 limit-le {n} high =
     let others : n - 1 ≤ 12 = omega arith in
     let rows : 1 + 2 * n ≤ 27 = omega arith in

@@ -99,5 +99,5 @@ module _ (n t faulty : ℕ) (rows lists table : List ℕ) where
   messages = sum n (λ j. sum n (λ i. cond (sound faulty j && receives j i) (sentTo j i) 0))
 
 -- the most messages of one iteration: by each of n boxes to n − 1 others, a row in step 1 and n in steps 2 and 3 each
-unfoldable pub messageLimit : ℕ → ℕ
+abbrev pub messageLimit : ℕ → ℕ
 messageLimit n = n * (n - 1) * (1 + 2 * n)

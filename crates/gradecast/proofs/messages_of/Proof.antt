@@ -2,7 +2,7 @@
 -- n − 1 times, are the messages. Assumes nothing.
 use mathlib.Core.Path.{sym, ap, ap₂, _∙_}
 use Prim.Native.Nat.{ℕ, _+_, _-_, _*_, _≤_}
-use native.Mathlib.Nat.{mul-le-mul-right}
+use native.Mathlib.Nat.{lt-of-le-of-lt, mul-le-mul-right}
 use native.Mathlib.Omega.{arith}
 use Rattle.sizes.proofs.Laws.{square-le}
 use Rattle.gradecast.proofs.Sent.{length-filled, messages-counted}
@@ -40,6 +40,10 @@ all-small c =
     let size = length-filled (s .args .third .now) (p .1) (p .3) in
     omega (arith, square-le (p .1), first-small (second c), c .sent-in2 .ensures .1, size)
 
+-- some of 13 boxes
+fewer : {n : ℕ} (k : ℕ) → n ≤ 13 → n - k ≤ 13
+fewer k high = omega arith
+
 mul-size : tie.Need-mul-size
 mul-size c = omega (arith, square-le (c .before .before .pre .1))
 
@@ -65,13 +69,12 @@ add-boxes-2 : tie.Need-add-boxes-2
 add-boxes-2 c = omega (arith, all-small c)
 
 sub-result : tie.Need-sub-result
-sub-result c = start (first (second c)) .pre .0
+sub-result c = let low = start (first (second c)) .pre .0 in omega (arith, low)
 
 mul-result : tie.Need-mul-result
 mul-result c =
-    let p = start (first (second c)) .pre in
-    let others : start (first (second c)) .args .settings .n - 1 ≤ 12 = omega (arith, p .1) in
-    omega (arith, mul-le-mul-right (boxes c) others, all-small c)
+    let high = start (first (second c)) .pre .1 in
+    record { fits = lt-of-le-of-lt (mul-le-mul-right (boxes c) (fewer _ high)) (omega (arith, all-small c)) }
 
 returns : tie.Need-returns
 returns c =

@@ -1,15 +1,20 @@
--- `run::has_too_many_sent` meets its contract: n is from 1 to 13, so n − 1 is a number, the limit for one iteration is
--- at most 4,212, and nothing overflows. Assumes nothing.
+-- `run::has_too_many_sent` meets its contract: its limit is the definition's, and since n is from 1 to 13 nothing falls
+-- below 0 or overflows. Assumes nothing.
 use mathlib.Core.Path.{refl}
 use Prim.Native.Nat.{ℕ, _+_, _-_, _*_, _≤_}
-use native.Mathlib.Nat.{mul-le-mul}
+use native.Mathlib.Nat.{lt-of-le-of-lt, mul-le-mul}
 use native.Mathlib.Omega.{arith}
-use Rattle.gradecast.specs.Steps.{messageLimit}
-use Rattle.gradecast.proofs.Messages.{limit-le}
 use Rattle.run.specs.State.{tooManySent}
 use borrow.Author.Needs.{needs}
 use Rattle.run.proofs.has_too_many_sent.Statement.{statement}
 use Rattle.run.proofs.has_too_many_sent.Tie as tie
+
+-- n boxes and some of them: what is multiplied stays small
+pairs-few : (n k : ℕ) → n ≤ 13 → n * (n - k) ≤ 13 * 13
+pairs-few n k high = let fewer : n - k ≤ 13 = omega arith in mul-le-mul high fewer
+
+limit-few : (n k : ℕ) → n ≤ 13 → n * (n - k) * (1 + 2 * n) ≤ 13 * 13 * 27
+limit-few n k high = let rows : 1 + 2 * n ≤ 27 = omega arith in mul-le-mul (pairs-few n k high) rows
 
 cast-n : tie.Need-cast-n
 cast-n c = search needs
@@ -18,10 +23,7 @@ sub-limit : tie.Need-sub-limit
 sub-limit c = search needs
 
 mul-limit : tie.Need-mul-limit
-mul-limit c =
-    let high = c .before .pre .1 in
-    let others : c .before .args .s .n - 1 ≤ 12 = omega (arith, high) in
-    omega (arith, mul-le-mul high others)
+mul-limit c = record { fits = lt-of-le-of-lt (pairs-few _ _ (c .before .pre .1)) (omega arith) }
 
 mul-limit-2 : tie.Need-mul-limit-2
 mul-limit-2 c = omega (arith, c .before .pre .1)
@@ -30,20 +32,18 @@ add-limit : tie.Need-add-limit
 add-limit c = omega (arith, c .before .pre .1)
 
 mul-limit-3 : tie.Need-mul-limit-3
-unfolding messageLimit
-mul-limit-3 c = omega (arith, limit-le (c .before .pre .1))
+mul-limit-3 c = record { fits = lt-of-le-of-lt (limit-few _ _ (c .before .pre .1)) (omega arith) }
 
 cast-result : tie.Need-cast-result
 cast-result c = search needs
 
 mul-result : tie.Need-mul-result
-unfolding messageLimit
 mul-result c =
     let done : c .before .before .args .s .done ≤ 255 = search needs in
-    omega (arith, mul-le-mul done (limit-le (c .before .before .pre .1)))
+    record { fits = lt-of-le-of-lt (mul-le-mul done (limit-few _ _ (c .before .before .pre .1))) (omega arith) }
 
 returns : tie.Need-returns
-unfolding tooManySent messageLimit
+unfolding tooManySent
 returns c = refl
 
 pub has-too-many-sent-spec : {M : Type 1} → statement M
