@@ -18,17 +18,23 @@ use native.Mathlib.Nat.{
   add-assoc,
   zero-mul,
   suc-mul,
+  add-mul,
 }
 use native.Mathlib.Decide.{ℕ-discrete}
 use native.Mathlib.Numerals.{add-one}
 use native.Mathlib.Omega.{arith}
 use lib.Arith.{digits-div, digits-mod}
+use lib.Dec.{eqb}
+use borrow.Author.Tests.{eq-eqb, ne-eqb}
 use Rattle.counting.specs.Count.{sum, count, any, find}
 use Rattle.counting.proofs.Bools.{
   never,
   either,
   both,
   not-of-false,
+  not-of-true,
+  cond-true,
+  cond-false,
   or-cases,
   or-false-left,
   or-false-right,
@@ -66,6 +72,33 @@ sum-const (suc n) c = ap (λ (m : ℕ). m + c) (sum-const n c ∙ mul-comm n c) 
 -- a sum of n numbers, each at most c, is at most n times c
 pub sum-at-most : (n c : ℕ) (f : ℕ → ℕ) → ((k : ℕ) → k < n → f k ≤ c) → sum n f ≤ n * c
 sum-at-most n c f h = subst (λ (m : ℕ). sum n f ≤ m) (sum-const n c) (sum-mono n f (λ k. c) h)
+
+-- n places of which all but j hold c
+pub sum-others : (n j c : ℕ) → j < n → sum n (λ k. cond (not (eqb k j)) c 0) ≡ (n - 1) * c
+unfolding sum
+sum-others zero j c l = absurd (not-suc-le-zero l)
+sum-others (suc n) j c l =
+    let one-less : n ≡ suc n - 1 = omega arith in
+    ⊎-elim last (λ m. before m (sum-others n j c m)) (at-or-below j n l) ∙ ap (λ (q : ℕ). q * c) one-less
+  where
+    other : ℕ → ℕ
+    other k = cond (not (eqb k j)) c 0
+
+    holds : (k : ℕ) → (k ≡ j → ⊥) → other k ≡ c
+    holds k d = cond-true c 0 (not-of-false (ne-eqb k j d))
+
+    last : j ≡ n → sum n other + other n ≡ n * c
+    last e =
+        ap₂ _+_ (sum-ext n other (λ k. c) (λ k m. holds k (λ d. omega (arith, d, e))) ∙ sum-const n c)
+        (cond-false c 0 (not-of-true (eq-eqb n j (sym e))))
+        ∙ add-zero (n * c)
+
+    before : j < n → sum n other ≡ (n - 1) * c → sum n other + other n ≡ n * c
+    before m e =
+        let one-more : n - 1 + 1 ≡ n = omega arith in
+        ap₂ _+_ e (holds n (λ d. omega (arith, d, m)))
+        ∙ omega (arith, add-mul (n - 1) 1 c)
+        ∙ ap (λ (q : ℕ). q * c) one-more
 
 pub sum-scale : (n c : ℕ) (f : ℕ → ℕ) → sum n (λ k. c * f k) ≡ c * sum n f
 unfolding sum

@@ -3,7 +3,7 @@
 use mathlib.Core.Path.{_≡_, refl, sym, ap, ap₂, _∙_}
 use mathlib.Core.Bool.{Bool, true, false, cond, not}
 use mathlib.Core.List.{List}
-use Prim.Native.Nat.{ℕ, _+_, _*_, _<_}
+use Prim.Native.Nat.{ℕ, _+_, _-_, _*_, _<_}
 use lib.Dec.{eqb}
 use lib.ListN.{getD}
 use Rattle.counting.specs.Count.{count}
@@ -65,7 +65,7 @@ module _ (n t faulty : ℕ) (rows lists a b : List ℕ) (same : SameLies n fault
   unfolding sentTo
   messages-same =
       messages-quick n t faulty rows lists a
-      ∙ ap (λ (m : ℕ). n * m)
+      ∙ ap (λ (m : ℕ). (n - 1) * m)
       (sum-ext n (λ j. cond (sound faulty j) (sentByOne n t faulty rows lists a j) 0)
       (λ j. cond (sound faulty j) (sentByOne n t faulty rows lists b j) 0)
       (λ j lj. ap (λ (m : ℕ). cond (sound faulty j) m 0) (by-one j lj)))

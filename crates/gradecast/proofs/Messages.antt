@@ -1,37 +1,49 @@
--- The messages of one iteration. A sound box sends the same number of non-zero rows to each of the n boxes, so the sum
--- over receivers is n times that number; it is at most one row in step 1 and n in each of steps 2 and 3.
+-- The messages of one iteration. A sound box sends the same number of non-zero rows to each of the n − 1 others, so
+-- the sum over receivers is n − 1 times that number; it is at most one row in step 1 and n in each of steps 2 and 3.
 -- Assumes nothing.
-use mathlib.Core.Path.{_≡_, _∙_, subst}
-use mathlib.Core.Bool.{Bool, true, false, cond, not}
+use mathlib.Core.Path.{_≡_, refl, sym, ap, _∙_, subst}
+use mathlib.Core.Bool.{Bool, true, false, cond, not, _&&_}
 use mathlib.Core.List.{List}
-use Prim.Native.Nat.{ℕ, _+_, _*_, _≤_}
-use native.Mathlib.Nat.{mul-add, mul-assoc, mul-le-mul-left}
+use Prim.Native.Nat.{ℕ, _+_, _-_, _*_, _≤_, _<_}
+use native.Mathlib.Nat.{mul-assoc, mul-comm, mul-le-mul, mul-le-mul-left}
 use native.Mathlib.Omega.{arith}
 use lib.Dec.{eqb}
 use Rattle.counting.specs.Count.{sum}
-use Rattle.counting.proofs.Count.{sum-ext, sum-const, sum-scale, sum-at-most, count-le}
-use Rattle.sizes.specs.Sizes.{tableRows, sound}
-use Rattle.gradecast.specs.Steps.{sent1, sent2, sent3, sentTo, messages}
+use Rattle.counting.proofs.Count.{sum-ext, sum-others, sum-scale, sum-at-most, count-le}
+use Rattle.sizes.specs.Sizes.{sound}
+use Rattle.gradecast.specs.Steps.{sent1, sent2, sent3, receives, sentTo, messages, messageLimit}
 
 module _ (n t faulty : ℕ) (rows lists table : List ℕ) where
   -- the non-zero rows that a sound box j sends to any one box, as to the first
   abbrev pub sentByOne : ℕ → ℕ
   sentByOne j = sentTo n t faulty rows lists table j 0
 
+  -- a sender that is sound or not, to a box that receives or not
+  parted : (b c : Bool) (x : ℕ) → cond (b && c) x 0 ≡ cond c (cond b x 0) 0
+  parted true c x = refl
+  parted false true x = refl
+  parted false false x = refl
+
   -- the quick formula
-  pub messages-quick : messages n t faulty rows lists table ≡ n * sum n (λ j. cond (sound faulty j) (sentByOne j) 0)
+  pub messages-quick : messages n t faulty rows lists table ≡
+      (n - 1) * sum n (λ j. cond (sound faulty j) (sentByOne j) 0)
   unfolding messages sentTo
   messages-quick =
-      sum-ext n (λ j. sum n (λ i. cond (sound faulty j) (sentByOne j) 0))
-      (λ j. n * cond (sound faulty j) (sentByOne j) 0)
-      (λ j l. sum-const n (cond (sound faulty j) (sentByOne j) 0))
-      ∙ sum-scale n n (λ j. cond (sound faulty j) (sentByOne j) 0)
+      sum-ext n (λ j. sum n (λ i. cond (sound faulty j && receives j i) (sentByOne j) 0)) (λ j. (n - 1) * by-one j)
+      (λ j l.
+      sum-ext n (λ i. cond (sound faulty j && receives j i) (sentByOne j) 0) (λ i. cond (receives j i) (by-one j) 0)
+      (λ i m. parted (sound faulty j) (receives j i) (sentByOne j))
+      ∙ sum-others n j (by-one j) l)
+      ∙ sum-scale n (n - 1) by-one
+    where
+      by-one : ℕ → ℕ
+      by-one j = cond (sound faulty j) (sentByOne j) 0
 
   one-at-most : (b : Bool) → cond b 0 1 ≤ 1
   one-at-most true = omega arith
   one-at-most false = omega arith
 
-  at-most : (b : Bool) (j : ℕ) → cond b (sentByOne j) 0 ≤ 1 + n + n
+  at-most : (b : Bool) (j : ℕ) → cond b (sentByOne j) 0 ≤ 1 + 2 * n
   unfolding sentTo
   at-most true j =
       omega (
@@ -42,16 +54,22 @@ module _ (n t faulty : ℕ) (rows lists table : List ℕ) where
       )
   at-most false j = omega arith
 
-  -- one iteration sends at most as many messages as its table has rows
-  pub messages-bound : messages n t faulty rows lists table ≤ tableRows n
-  unfolding tableRows
+  -- one iteration keeps within its limit
+  pub messages-bound : messages n t faulty rows lists table ≤ messageLimit n
   messages-bound =
       rw messages-quick
-      (subst (λ (m : ℕ). n * sum n by-one ≤ m) size
-      (mul-le-mul-left n (sum-at-most n (1 + n + n) by-one (λ j l. at-most (sound faulty j) j))))
+      (subst (λ (m : ℕ). (n - 1) * sum n by-one ≤ m) size
+      (mul-le-mul-left (n - 1) (sum-at-most n (1 + 2 * n) by-one (λ j l. at-most (sound faulty j) j))))
     where
       by-one : ℕ → ℕ
       by-one j = cond (sound faulty j) (sentByOne j) 0
 
-      size : n * (n * (1 + n + n)) ≡ n * n + 2 * (n * n * n)
-      size = simp (mul-add, mul-assoc) (omega arith)
+      size : (n - 1) * (n * (1 + 2 * n)) ≡ n * (n - 1) * (1 + 2 * n)
+      size = sym (mul-assoc (n - 1) n (1 + 2 * n)) ∙ ap (λ (m : ℕ). m * (1 + 2 * n)) (mul-comm (n - 1) n)
+
+-- the limit of a run's largest number of boxes
+pub limit-le : {n : ℕ} → n ≤ 13 → messageLimit n ≤ 4212
+limit-le {n} high =
+    let others : n - 1 ≤ 12 = omega arith in
+    let rows : 1 + 2 * n ≤ 27 = omega arith in
+    mul-le-mul (mul-le-mul high others) rows

@@ -1,11 +1,11 @@
 -- The number of messages as the code counts it: the rows of step 1, the cells of step 2 and the cells of step 3 that
--- are not 0, each sent to n boxes. It is the definition's sum over senders and receivers, since a faulty box's cells
+-- are not 0, each sent to the n − 1 others. It is the definition's sum over senders and receivers, since a faulty box's cells
 -- are 0.
 -- Assumes nothing.
 use mathlib.Core.Path.{_≡_, refl, sym, ap, ap₂, _∙_}
 use mathlib.Core.Bool.{Bool, true, false, cond, not, _&&_}
 use mathlib.Core.List.{List}
-use Prim.Native.Nat.{ℕ, _+_, _*_, _/_, _%_, _≤_}
+use Prim.Native.Nat.{ℕ, _+_, _-_, _*_, _/_, _%_, _≤_}
 use native.Mathlib.Omega.{arith}
 use lib.Dec.{eqb}
 use lib.ListN.{length, getD, take, replicate}
@@ -86,13 +86,13 @@ module _ (s : Settings) (rows lists table second third : List ℕ) where
       ∙ sum-ext n (λ j. cond (sendsFirst (s .faulty) rows j) 1 0) in-step1
       (λ j l. first (sound (s .faulty) j) (eqb (sent1 rows j) 0))
 
-  -- the three counts together, n times
+  -- the three counts together, n − 1 times
   pub messages-counted : SaidSecond s lists table second rows → SaidThird s lists table third rows →
-      n * (count n (sendsFirst (s .faulty) rows) + filled (take (n * n) second) + filled (take (n * n) third)) ≡
+      (n - 1) * (count n (sendsFirst (s .faulty) rows) + filled (take (n * n) second) + filled (take (n * n) third)) ≡
       messages n (s .t) (s .faulty) rows lists table
   unfolding sentTo
   messages-counted e₂ e₃ =
-      ap (λ (m : ℕ). n * m)
+      ap (λ (m : ℕ). (n - 1) * m)
       (ap₂ _+_ (ap₂ _+_ boxes (filled-cells n (s .faulty) _ second e₂)) (filled-cells n (s .faulty) _ third e₃)
       ∙ ap (λ (m : ℕ). m + sum n in-step3) (sym (sum-add n in-step1 in-step2))
       ∙ sym (sum-add n (λ j. in-step1 j + in-step2 j) in-step3)

@@ -1,7 +1,7 @@
 -- Steps 1 to 4 of one iteration, for every box at once. Boxes and leaders count from 0. The rows and the lists are
 -- those held when the iteration began; the table says what the faulty boxes send.
-use Prim.Native.Nat.{ℕ, _+_, _*_}
-use mathlib.Core.Bool.{cond, not}
+use Prim.Native.Nat.{ℕ, _+_, _-_, _*_}
+use mathlib.Core.Bool.{Bool, cond, not, _&&_}
 use mathlib.Core.List.{List}
 use lib.Dec.{eqb}
 use lib.ListN.{getD}
@@ -40,6 +40,10 @@ hears list j m = cond (member list j) 0 m
 -- step 1: a sound box j sends its row to all n boxes
 abbrev pub sent1 : List ℕ → ℕ → ℕ
 sent1 rows j = getD rows j 0
+
+-- a box does not radio to itself: what box j sends goes to every other box i, sound or faulty
+abbrev pub receives : ℕ → ℕ → Bool
+receives j i = not (eqb i j)
 
 module _ (n faulty : ℕ) (rows lists table : List ℕ) where
   -- step 1, V[k]: what box i hears from k
@@ -90,6 +94,10 @@ module _ (n t faulty : ℕ) (rows lists table : List ℕ) where
       count n (λ k. not (eqb (sent2 n faulty rows lists table j k) 0)) +
       count n (λ k. not (eqb (sent3 j k) 0))
 
-  -- messages of one iteration: by every sound sender to every receiver, the box itself being one of the n
+  -- messages of one iteration: by every sound sender to every box that receives them
   unfoldable pub messages : ℕ
-  messages = sum n (λ j. sum n (λ i. cond (sound faulty j) (sentTo j i) 0))
+  messages = sum n (λ j. sum n (λ i. cond (sound faulty j && receives j i) (sentTo j i) 0))
+
+-- the most messages of one iteration: by each of n boxes to n − 1 others, a row in step 1 and n in steps 2 and 3 each
+abbrev pub messageLimit : ℕ → ℕ
+messageLimit n = n * (n - 1) * (1 + 2 * n)

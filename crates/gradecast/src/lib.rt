@@ -511,9 +511,11 @@ fn sent_in_step1(n: usize, faulty: u16, rows: &[u64; 13]) -> usize
     sent
 }
 
-// The messages of steps 1 to 3, from the rows and what the sound boxes send in steps 2 and 3: each goes to n boxes.
+// The messages of steps 1 to 3, from the rows and what the sound boxes send in steps 2 and 3: each goes to the n - 1
+// other boxes.
 fn messages_of(settings: Settings, rows: &[u64; 13], second: &[u64], third: &[u64]) -> u64
-    requires { ⌜ (settings .n ≤ 13) × (length (now second) ≡ 169) × (length (now third) ≡ 169) ⌝ }
+    requires { ⌜ (1 ≤ settings .n) × (settings .n ≤ 13) × (length (now second) ≡ 169) ×
+        (length (now third) ≡ 169) ⌝ }
     ensures { λ r. ⌜ AllSent settings (now (rows .entry)) (now (second .entry)) (now (third .entry)) r ⌝ }
 {
     let n = settings.n;
@@ -521,7 +523,7 @@ fn messages_of(settings: Settings, rows: &[u64; 13], second: &[u64], third: &[u6
     let boxes = sent_in_step1(n, settings.faulty, rows)
         + sent_in(&second[..size])
         + sent_in(&third[..size]);
-    (n * boxes) as u64
+    ((n - 1) * boxes) as u64
 }
 
 // Steps 1 to 4 for every box, where they are not refused.

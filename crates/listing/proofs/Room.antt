@@ -1,6 +1,6 @@
 -- How long a listing can be. A line `run` has 14 bytes at most: n is at most 13, t at most 4, a set of boxes below
 -- 8,192. A line `at` has 34 at most: iteration at most 5, box at most 13, row below 2 to the 64, list below 8,192;
--- and there are at most 13 boxes in each of at most 5 iterations. The last line has 11 at most: at most 22,815
+-- and there are at most 13 boxes in each of at most 5 iterations. The last line has 11 at most: at most 21,060
 -- messages, or a refusal below 100. That is 14 + 65 * 34 + 11. Rows are so small because a row of the file is 8
 -- bytes, and a run makes no row that was not given.
 -- Assumes nothing.
@@ -180,7 +180,7 @@ at-short done i row list hd hi hr hl =
       decimal-most 3 list (omega arith),
     )
 
-last-short : (refusal sent : ℕ) → refusal < 100 → (refusal ≡ 0 → sent ≤ 22815) → length (lastLine refusal sent) ≤ 11
+last-short : (refusal sent : ℕ) → refusal < 100 → (refusal ≡ 0 → sent ≤ 21060) → length (lastLine refusal sent) ≤ 11
 unfolding lastLine sum
 last-short refusal sent h few = go (eqb refusal 0) refl
   where
@@ -284,7 +284,7 @@ module _ (bytes : List ℕ) where
         }
     reached (suc m) l = reached-next m (passed-each (refusedAt bytes) (due bytes) m l) (reached m (omega arith))
 
-  sent-few : endsWith bytes ≡ 0 → outcomeOf bytes .run .sent ≤ 22815
+  sent-few : endsWith bytes ≡ 0 → outcomeOf bytes .run .sent ≤ 21060
   unfolding outcomeOf endedBy endsWith
   sent-few e =
       let ok = none-refused _ _ e .0 in

@@ -87,8 +87,8 @@ record Computed : Type 0 where
   iterated : caseS 1 .refusal ≡ 0
   done0 : caseS 0 .run .done ≡ 0
   done1 : caseS 1 .run .done ≡ 1
-  messages1 : caseS 1 .run .sent ≡ 100
-  messages2 : caseS 2 .run .sent ≡ 184
+  messages1 : caseS 1 .run .sent ≡ 75
+  messages2 : caseS 2 .run .sent ≡ 138
   row0 : getD (caseS 1 .run .rows) 0 0 ≡ 10
   row1 : getD (caseS 1 .run .rows) 1 0 ≡ 20
   last1 : getD (caseS 2 .run .rows) 1 0 ≡ 10
@@ -106,7 +106,7 @@ record ComputedBy (v : ℕ) (number : ℕ → ℕ → ℕ → ℕ) : Type 0 wher
   from50 : getD (runBy (fixedRow v) (common 50) quietly 1 .run .rows) 0 0 ≡ v
   from60 : getD (runBy (fixedRow v) (common 60) quietly 1 .run .rows) 0 0 ≡ v
   first : invented number (caseS 0 .run) liesOfS .run .sent ≡ 0 + number 4 1 8
-  second : invented number (caseS 1 .run) (silent 4) .run .sent ≡ 100 + number 4 1 8
+  second : invented number (caseS 1 .run) (silent 4) .run .sent ≡ 75 + number 4 1 8
   only0 : getD (runBy firstOnly rowsOfS tablesOfS 2 .run .rows) 0 0 ≡ 10
   only1 : getD (runBy firstOnly rowsOfS tablesOfS 2 .run .rows) 1 0 ≡ 20
   stays1 : getD (firstOnly (caseS 1 .run) (silent 4) .run .rows) 1 0 ≡ 20
@@ -261,7 +261,7 @@ first-only-parts agrees =
     let by = computed-by 0 (λ n t faulty. 0) in
     omega (arith, by .only0, by .only1, agrees 0 1 sound0 sound1)
 
--- one whose message number is invented: the two iterations of case S send 100 and 84
+-- one whose message number is invented: the two iterations of case S send 75 and 63
 pub not-invented : (number : ℕ → ℕ → ℕ → ℕ) →
     IterateCall (caseS 0 .run) liesOfS (invented number (caseS 0 .run) liesOfS) →
     IterateCall (caseS 1 .run) (silent 4) (invented number (caseS 1 .run) (silent 4)) → ⊥

@@ -72,7 +72,7 @@ fileOfS =
     inBytes rowsOfS ++ (inBytes liesOfS ++ inBytes (silent 4))
 
 -- the eight lines of case S, as they are printed: run 4 1 8; at 1 1 10 8; at 1 2 20 8; at 1 3 10 8; at 2 1 10
--- 8; at 2 2 10 8; at 2 3 10 8; sent 184
+-- 8; at 2 2 10 8; at 2 3 10 8; sent 138
 abbrev pub linesOfS : List ℕ
 linesOfS =
     114 ∷ 117 ∷ 110 ∷ 32 ∷ 52 ∷ 32 ∷ 49 ∷ 32 ∷ 56 ∷ 10 ∷
@@ -82,7 +82,7 @@ linesOfS =
     97 ∷ 116 ∷ 32 ∷ 50 ∷ 32 ∷ 49 ∷ 32 ∷ 49 ∷ 48 ∷ 32 ∷ 56 ∷ 10 ∷
     97 ∷ 116 ∷ 32 ∷ 50 ∷ 32 ∷ 50 ∷ 32 ∷ 49 ∷ 48 ∷ 32 ∷ 56 ∷ 10 ∷
     97 ∷ 116 ∷ 32 ∷ 50 ∷ 32 ∷ 51 ∷ 32 ∷ 49 ∷ 48 ∷ 32 ∷ 56 ∷ 10 ∷
-    115 ∷ 101 ∷ 110 ∷ 116 ∷ 32 ∷ 49 ∷ 56 ∷ 52 ∷ 10 ∷
+    115 ∷ 101 ∷ 110 ∷ 116 ∷ 32 ∷ 49 ∷ 51 ∷ 56 ∷ 10 ∷
     []
 
 -- a run with boxes that say nothing in the faulty places
@@ -103,24 +103,24 @@ voteGives t rows = voteReply rows t .refusal ∷ voteReply rows t .row ∷ []
 -- the marked cases, in their order
 abbrev pub marked : List Case
 marked =
-    -- case S: messages 100, then 84 more; all but box 2 hold 10 after iteration 1, all after iteration 2
-    Case.gives (shown (caseS 1)) (0 ∷ 100 ∷ 10 ∷ 20 ∷ 10 ∷ 0 ∷ 8 ∷ 8 ∷ 8 ∷ 0 ∷ []) ∷
-    Case.gives (shown (caseS 2)) (0 ∷ 184 ∷ 10 ∷ 10 ∷ 10 ∷ 0 ∷ 8 ∷ 8 ∷ 8 ∷ 0 ∷ []) ∷
+    -- case S: messages 75, then 63 more; all but box 2 hold 10 after iteration 1, all after iteration 2
+    Case.gives (shown (caseS 1)) (0 ∷ 75 ∷ 10 ∷ 20 ∷ 10 ∷ 0 ∷ 8 ∷ 8 ∷ 8 ∷ 0 ∷ []) ∷
+    Case.gives (shown (caseS 2)) (0 ∷ 138 ∷ 10 ∷ 10 ∷ 10 ∷ 0 ∷ 8 ∷ 8 ∷ 8 ∷ 0 ∷ []) ∷
     -- box 2 grades leader 4 with 20 at confidence 1, boxes 1 and 3 with confidence 0
     Case.gives (graded (caseS 0 .run) liesOfS 1 3) (20 ∷ 1 ∷ []) ∷
     Case.gives (graded (caseS 0 .run) liesOfS 0 3) (0 ∷ 0 ∷ []) ∷
     Case.gives (graded (caseS 0 .run) liesOfS 2 3) (0 ∷ 0 ∷ []) ∷
     -- the whole listing of its file
     Case.gives (listingOf fileOfS) linesOfS ∷
-    -- rows 50, 50, 50, box 4 silent: 84 and 84 messages
-    Case.gives (shown (quiet 4 1 8 (50 ∷ 50 ∷ 50 ∷ 0 ∷ []) 1)) (0 ∷ 84 ∷ 50 ∷ 50 ∷ 50 ∷ 0 ∷ 8 ∷ 8 ∷ 8 ∷ 0 ∷ []) ∷
-    Case.gives (shown (quiet 4 1 8 (50 ∷ 50 ∷ 50 ∷ 0 ∷ []) 2)) (0 ∷ 168 ∷ 50 ∷ 50 ∷ 50 ∷ 0 ∷ 8 ∷ 8 ∷ 8 ∷ 0 ∷ []) ∷
+    -- rows 50, 50, 50, box 4 silent: 63 and 63 messages
+    Case.gives (shown (quiet 4 1 8 (50 ∷ 50 ∷ 50 ∷ 0 ∷ []) 1)) (0 ∷ 63 ∷ 50 ∷ 50 ∷ 50 ∷ 0 ∷ 8 ∷ 8 ∷ 8 ∷ 0 ∷ []) ∷
+    Case.gives (shown (quiet 4 1 8 (50 ∷ 50 ∷ 50 ∷ 0 ∷ []) 2)) (0 ∷ 126 ∷ 50 ∷ 50 ∷ 50 ∷ 0 ∷ 8 ∷ 8 ∷ 8 ∷ 0 ∷ []) ∷
     -- the same with rows 10, 20, 30: all end with 10
-    Case.gives (shown (quiet 4 1 8 rowsOfS 2)) (0 ∷ 168 ∷ 10 ∷ 10 ∷ 10 ∷ 0 ∷ 8 ∷ 8 ∷ 8 ∷ 0 ∷ []) ∷
-    -- no faulty box, rows 7, 7, 9, 9: all end with 7, lists 0, 288 messages
-    Case.gives (shown (quiet 4 1 0 (7 ∷ 7 ∷ 9 ∷ 9 ∷ []) 2)) (0 ∷ 288 ∷ 7 ∷ 7 ∷ 7 ∷ 7 ∷ 0 ∷ 0 ∷ 0 ∷ 0 ∷ []) ∷
-    -- n = 1, t = 0, row 5: one iteration, row 5, 3 messages
-    Case.gives (shown (quiet 1 0 0 (5 ∷ []) 1)) (0 ∷ 3 ∷ 5 ∷ 0 ∷ []) ∷
+    Case.gives (shown (quiet 4 1 8 rowsOfS 2)) (0 ∷ 126 ∷ 10 ∷ 10 ∷ 10 ∷ 0 ∷ 8 ∷ 8 ∷ 8 ∷ 0 ∷ []) ∷
+    -- no faulty box, rows 7, 7, 9, 9: all end with 7, lists 0, 216 messages
+    Case.gives (shown (quiet 4 1 0 (7 ∷ 7 ∷ 9 ∷ 9 ∷ []) 2)) (0 ∷ 216 ∷ 7 ∷ 7 ∷ 7 ∷ 7 ∷ 0 ∷ 0 ∷ 0 ∷ 0 ∷ []) ∷
+    -- n = 1, t = 0, row 5: one iteration, row 5, no message
+    Case.gives (shown (quiet 1 0 0 (5 ∷ []) 1)) (0 ∷ 0 ∷ 5 ∷ 0 ∷ []) ∷
     -- grade, n = 7, t = 2: support 2, 3, 4, 5 gives 0, 1, 1, 2
     Case.gives (gradeBy 2 2 5) (0 ∷ 0 ∷ []) ∷
     Case.gives (gradeBy 2 3 4) (6 ∷ 1 ∷ []) ∷

@@ -1,6 +1,6 @@
 -- What a start or an iteration gives without refusal is never refused by 4, 5, 6, 9 or 14: n, t and the faulty set
 -- stay; a sound box's new row is a row that was chosen, or its old row; a new list is a set of boxes below n; every
--- other place is 0; and one iteration adds at most the table's rows to the messages. Assumes nothing.
+-- other place is 0; and one iteration keeps within its limit of messages. Assumes nothing.
 use mathlib.Core.Path.{_≡_, refl, sym, _∙_, subst}
 use mathlib.Core.Bool.{Bool, true, false, cond, not, _&&_, _||_}
 use mathlib.Core.List.{List}
@@ -15,9 +15,9 @@ use Rattle.counting.specs.Sets.{member}
 use Rattle.counting.proofs.Bools.{never, not-of-true, or-none, cond-true}
 use Rattle.counting.proofs.Count.{none-any}
 use Rattle.counting.proofs.Sets.{setOf-lt}
-use Rattle.sizes.specs.Sizes.{stray, tableRows, sound, Startable}
+use Rattle.sizes.specs.Sizes.{stray, sound, Startable}
 use Rattle.sizes.proofs.Laws.{inside-high, lt-within}
-use Rattle.gradecast.specs.Steps.{messages}
+use Rattle.gradecast.specs.Steps.{messages, messageLimit}
 use Rattle.gradecast.specs.Fair.{SoundBox, SoundRowsNotZero}
 use Rattle.gradecast.proofs.Boxes.{is-box, box-is}
 use Rattle.gradecast.proofs.Messages.{messages-bound}
@@ -82,12 +82,12 @@ module _ (s : Run) (table : List ℕ) (legal : Legal s) where
   next-sent : tooManySent (nextRun s table) ≡ false
   unfolding tooManySent nextRun
   next-sent =
-      le-ltb ((s .done + 1) * tableRows (s .n))
+      le-ltb ((s .done + 1) * messageLimit (s .n))
       (s .sent + messages (s .n) (s .t) (s .faulty) (s .rows) (s .lists) table)
       (omega (
         arith,
-        add-mul (s .done) 1 (tableRows (s .n)),
-        ltb-false (s .done * tableRows (s .n)) (s .sent) (legal .pass14-sent),
+        add-mul (s .done) 1 (messageLimit (s .n)),
+        ltb-false (s .done * messageLimit (s .n)) (s .sent) (legal .pass14-sent),
         messages-bound (s .n) (s .t) (s .faulty) (s .rows) (s .lists) table,
       ))
 
@@ -126,7 +126,7 @@ module _ (n t faulty : ℕ) (rows : List ℕ) (a : Startable n t faulty rows) wh
             good-place (startRun n t faulty rows) k
             (λ b. subst (λ (list : ℕ). list < 2 ^ n) (sym (start-list n t faulty rows k l)) (pow-pos n))
             (λ e. (start-unused n t faulty rows k l e, start-list n t faulty rows k l)));
-        pass14-sent = le-ltb (0 * tableRows n) 0 (omega arith);
+        pass14-sent = le-ltb (0 * messageLimit n) 0 (omega arith);
       }
 
 -- the replies

@@ -1,7 +1,7 @@
 -- Rows stay as small as what they are made of: a row that is sent, heard, voted for, graded or chosen is one of the
 -- state, one of the table, or 0. So a bound that those lie below holds of the next state, and of a whole run. And what
--- the other numbers of a legal state can be: a list is a set of boxes below n, and each iteration done sent at most
--- a whole table.
+-- the other numbers of a legal state can be: a list is a set of boxes below n, and each iteration done kept
+-- within its limit of messages.
 -- Assumes nothing.
 use mathlib.Core.Path.{_∙_}
 use mathlib.Core.Bool.{Bool, true, false, cond, _&&_}
@@ -19,12 +19,14 @@ use Rattle.counting.specs.Sets.{member}
 use Rattle.counting.proofs.Bools.{either}
 use Rattle.counting.proofs.Build.{length-build, getD-build}
 use Rattle.counting.proofs.Count.{any-none}
-use Rattle.sizes.specs.Sizes.{sound, tableRows}
-use Rattle.sizes.proofs.Laws.{inside-high, within-lt, table-le}
+use Rattle.sizes.specs.Sizes.{sound}
+use Rattle.sizes.proofs.Laws.{inside-high, within-lt}
 use Rattle.tally.specs.Tally.{voteOf, confidenceOf, gradedRow, counted, chosenRow}
 use Rattle.gradecast.specs.Steps.{sends, hears, heard1, heard2, column2, voted, heard3, column3, gradeRow}
+use Rattle.gradecast.specs.Steps.{messageLimit}
 use Rattle.gradecast.specs.Fair.{SoundBox}
 use Rattle.gradecast.proofs.Boxes.{is-box}
+use Rattle.gradecast.proofs.Messages.{limit-le}
 use Rattle.run.specs.declared.Run.{Run}
 use Rattle.run.specs.declared.Next.{Next}
 use Rattle.run.specs.Iteration.{gradedRows, confidences, newRow, entry, nextRun}
@@ -153,9 +155,9 @@ module _ (s : Run) (legal : Legal s) where
       (bad-box (s .n) (s .faulty) k (getD (s .rows) k 0) (getD (s .lists) k 0) (is-box b)
       ∙ any-none 13 (badPlace s) (legal .pass14-places) k (omega arith))
 
-  pub sent-at-most : s .sent ≤ s .done * 4563
+  pub sent-at-most : s .sent ≤ s .done * 4212
   unfolding tooManySent
   sent-at-most =
-      let most = ltb-false (s .done * tableRows (s .n)) (s .sent) (legal .pass14-sent) in
-      let whole = mul-le-mul-left (s .done) (table-le (inside-high (s .n) (legal .pass4))) in
+      let most = ltb-false (s .done * messageLimit (s .n)) (s .sent) (legal .pass14-sent) in
+      let whole = mul-le-mul-left (s .done) (limit-le (inside-high (s .n) (legal .pass4))) in
       omega arith

@@ -11,14 +11,14 @@ use lib.ListN.{length}
 use borrow.Author.Tests.{ltb-false}
 use Rattle.counting.specs.Count.{build}
 use Rattle.counting.proofs.Build.{build-ext}
-use Rattle.sizes.specs.Sizes.{sound, tableRows}
-use Rattle.sizes.proofs.Laws.{inside-low, inside-high, tolerated-lt, table-le}
+use Rattle.sizes.specs.Sizes.{sound}
+use Rattle.sizes.proofs.Laws.{inside-low, inside-high, tolerated-lt}
 use Rattle.gradecast.specs.declared.Cast.{Cast}
-use Rattle.gradecast.specs.Steps.{messages}
+use Rattle.gradecast.specs.Steps.{messages, messageLimit}
 use Rattle.gradecast.specs.Cast.{castOf, castReply}
 use Rattle.gradecast.specs.Inside.{Ready}
 use Rattle.gradecast.proofs.Cells.{length-cells}
-use Rattle.gradecast.proofs.Messages.{messages-bound}
+use Rattle.gradecast.proofs.Messages.{messages-bound, limit-le}
 use Rattle.gradecast.proofs.Replies.{cast-taken, ready-passes}
 use Rattle.run.specs.declared.Run.{Run}
 use Rattle.run.specs.Inside.{GradesOf, AllCells, listFrom}
@@ -45,9 +45,9 @@ module _ (s : Run) (table : List ℕ) (a : Iterable s table) where
   pub done-small : s .done ≤ 4
   done-small = omega (arith, a .done-few, few, high)
 
-  sent-few : s .sent ≤ s .done * tableRows (s .n)
+  sent-few : s .sent ≤ s .done * messageLimit (s .n)
   unfolding tooManySent
-  sent-few = ltb-false (s .done * tableRows (s .n)) (s .sent) (a .legal .pass14-sent)
+  sent-few = ltb-false (s .done * messageLimit (s .n)) (s .sent) (a .legal .pass14-sent)
 
   module _ (r : Cast) (e : r ≡ castReply (s .n) (s .t) (s .faulty) (s .rows) (s .lists) table) where
     -- an accepted iteration's steps are not refused
@@ -60,13 +60,13 @@ module _ (s : Run) (table : List ℕ) (a : Iterable s table) where
     unfolding castOf
     sent-is = ap (λ (c : Cast). c .sent) found
 
-    pub sent-small : s .sent + r .sent ≤ 22815
+    pub sent-small : s .sent + r .sent ≤ 21060
     sent-small =
         omega (
           arith,
           sent-few,
-          mul-le-mul done-small (table-le high),
-          table-le high,
+          mul-le-mul done-small (limit-le high),
+          limit-le high,
           sent-is,
           messages-bound (s .n) (s .t) (s .faulty) (s .rows) (s .lists) table,
         )

@@ -8,6 +8,7 @@ use Rattle.counting.specs.Count.{any, build}
 use Rattle.counting.specs.Refuse.{firstOf}
 use Rattle.counting.specs.Refuse.Refusal.{refuse}
 use Rattle.sizes.specs.Sizes.{outside, tooMany, stray, sound, soundZero, tableRows}
+use Rattle.gradecast.specs.Steps.{messageLimit}
 use Rattle.run.specs.declared.Run.{Run}
 use Rattle.run.specs.declared.Next.{Next}
 use Rattle.run.specs.Iteration.{entry, nextRun}
@@ -60,9 +61,9 @@ badEntry n faulty k row list = cond (ltb k n && sound faulty k) (stray n list) (
 unfoldable pub badPlace : Run → ℕ → Bool
 badPlace s k = badEntry (s .n) (s .faulty) k (getD (s .rows) k 0) (getD (s .lists) k 0)
 
--- refusal 14: more messages than iterations done times the table's rows
+-- refusal 14: more messages than iterations done times the limit for one iteration
 unfoldable pub tooManySent : Run → Bool
-tooManySent s = ltb (s .done * tableRows (s .n)) (s .sent)
+tooManySent s = ltb (s .done * messageLimit (s .n)) (s .sent)
 
 -- the refusals of an iteration: 4, 5, 6, 9, 11, 12, 14
 unfoldable pub iterateRefusal : Run → List ℕ → ℕ

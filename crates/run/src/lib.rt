@@ -186,12 +186,14 @@ fn has_bad_place(s: Run) -> bool
     false
 }
 
-// Refusal 14: more messages than iterations done times the table's rows?
+// Refusal 14: more messages than iterations done times the limit for one iteration?
 fn has_too_many_sent(s: Run) -> bool
     requires { ⌜ (1 ≤ s .n) × (s .n ≤ 13) ⌝ }
     ensures { λ r. ⌜ r ≡ tooManySent s ⌝ }
 {
-    (s.done as u64) * (sizes::table_rows(s.n) as u64) < s.sent
+    let n = s.n as u64;
+    let limit = n * (n - 1) * (1 + 2 * n);
+    (s.done as u64) * limit < s.sent
 }
 
 // Refusals 12 and 14, of a state that passes 4, 5, 6 and 9.

@@ -1,39 +1,52 @@
--- `run::has_too_many_sent` meets its contract: the table by n gives the rows of a table, at most 4,563. Assumes
--- nothing.
-use mathlib.Core.Path.{ap, _∙_}
-use Prim.Native.Nat.{ℕ, _*_, _≤_}
-use native.Mathlib.Nat.{mul-le-mul}
+-- `run::has_too_many_sent` meets its contract: its limit is the definition's, and since n is from 1 to 13 nothing falls
+-- below 0 or overflows. Assumes nothing.
+use mathlib.Core.Path.{refl}
+use Prim.Native.Nat.{ℕ, _+_, _-_, _*_, _≤_}
+use native.Mathlib.Nat.{lt-of-le-of-lt, mul-le-mul}
 use native.Mathlib.Omega.{arith}
-use lib.Dec.{ltb}
-use Rattle.sizes.specs.Sizes.{tableRows}
-use Rattle.sizes.proofs.Laws.{inside, by-n-inside, table-le}
 use Rattle.run.specs.State.{tooManySent}
 use borrow.Author.Needs.{needs}
 use Rattle.run.proofs.has_too_many_sent.Statement.{statement}
 use Rattle.run.proofs.has_too_many_sent.Tie as tie
 
+-- n boxes and some of them: what is multiplied stays small
+pairs-few : (n k : ℕ) → n ≤ 13 → n * (n - k) ≤ 13 * 13
+pairs-few n k high = let fewer : n - k ≤ 13 = omega arith in mul-le-mul high fewer
+
+limit-few : (n k : ℕ) → n ≤ 13 → n * (n - k) * (1 + 2 * n) ≤ 13 * 13 * 27
+limit-few n k high = let rows : 1 + 2 * n ≤ 27 = omega arith in mul-le-mul (pairs-few n k high) rows
+
+cast-n : tie.Need-cast-n
+cast-n c = search needs
+
+sub-limit : tie.Need-sub-limit
+sub-limit c = search needs
+
+mul-limit : tie.Need-mul-limit
+mul-limit c = record { fits = lt-of-le-of-lt (pairs-few _ _ (c .before .pre .1)) (omega arith) }
+
+mul-limit-2 : tie.Need-mul-limit-2
+mul-limit-2 c = omega (arith, c .before .pre .1)
+
+add-limit : tie.Need-add-limit
+add-limit c = omega (arith, c .before .pre .1)
+
+mul-limit-3 : tie.Need-mul-limit-3
+mul-limit-3 c = record { fits = lt-of-le-of-lt (limit-few _ _ (c .before .pre .1)) (omega arith) }
+
 cast-result : tie.Need-cast-result
 cast-result c = search needs
 
-table-rows-requires : tie.Need-table-rows-requires
-table-rows-requires c κs = search needs
-
 mul-result : tie.Need-mul-result
 mul-result c =
-    let s = c .before .before .args .s in
-    let p = c .before .before .pre in
-    let rows = c .table-rows .ensures ∙ by-n-inside tableRows (s .n) (inside (s .n) (p .0) (p .1)) in
-    let few : c .table-rows .result ≤ 4563 = omega (arith, rows, table-le (p .1)) in
-    let done : s .done ≤ 255 = search needs in
-    omega (arith, mul-le-mul done few)
+    let done : c .before .before .args .s .done ≤ 255 = search needs in
+    record { fits = lt-of-le-of-lt (mul-le-mul done (limit-few _ _ (c .before .before .pre .1))) (omega arith) }
 
 returns : tie.Need-returns
 unfolding tooManySent
-returns c =
-    let s = c .before .before .before .args .s in
-    let p = c .before .before .before .pre in
-    ap (λ (m : ℕ). ltb (s .done * m) (s .sent))
-    (c .before .table-rows .ensures ∙ by-n-inside tableRows (s .n) (inside (s .n) (p .0) (p .1)))
+returns c = refl
 
 pub has-too-many-sent-spec : {M : Type 1} → statement M
-has-too-many-sent-spec = tie.close (tie.spec cast-result table-rows-requires mul-result returns)
+has-too-many-sent-spec =
+    tie.close
+    (tie.spec cast-n sub-limit mul-limit mul-limit-2 add-limit mul-limit-3 cast-result mul-result returns)
