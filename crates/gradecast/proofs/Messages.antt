@@ -4,7 +4,7 @@
 use mathlib.Core.Path.{_≡_, refl, sym, ap, _∙_, subst}
 use mathlib.Core.Bool.{Bool, true, false, cond, not, _&&_}
 use mathlib.Core.List.{List}
-use Prim.Native.Nat.{ℕ, _+_, _-_, _*_, _≤_, _<_}
+use Prim.Native.Nat.{ℕ, _+_, _-_, _*_, _≤_}
 use native.Mathlib.Nat.{mul-assoc, mul-comm, mul-le-mul, mul-le-mul-left}
 use native.Mathlib.Omega.{arith}
 use lib.Dec.{eqb}
@@ -18,6 +18,10 @@ module _ (n t faulty : ℕ) (rows lists table : List ℕ) where
   abbrev pub sentByOne : ℕ → ℕ
   sentByOne j = sentTo n t faulty rows lists table j 0
 
+  -- and those of any box j: a faulty one's do not count
+  abbrev by-one : ℕ → ℕ
+  by-one j = cond (sound faulty j) (sentByOne j) 0
+
   -- a sender that is sound or not, to a box that receives or not
   parted : (b c : Bool) (x : ℕ) → cond (b && c) x 0 ≡ cond c (cond b x 0) 0
   parted true c x = refl
@@ -25,8 +29,7 @@ module _ (n t faulty : ℕ) (rows lists table : List ℕ) where
   parted false false x = refl
 
   -- the quick formula
-  pub messages-quick : messages n t faulty rows lists table ≡
-      (n - 1) * sum n (λ j. cond (sound faulty j) (sentByOne j) 0)
+  pub messages-quick : messages n t faulty rows lists table ≡ (n - 1) * sum n by-one
   unfolding messages sentTo
   messages-quick =
       sum-ext n (λ j. sum n (λ i. cond (sound faulty j && receives j i) (sentByOne j) 0)) (λ j. (n - 1) * by-one j)
@@ -35,9 +38,6 @@ module _ (n t faulty : ℕ) (rows lists table : List ℕ) where
       (λ i m. parted (sound faulty j) (receives j i) (sentByOne j))
       ∙ sum-others n j (by-one j) l)
       ∙ sum-scale n (n - 1) by-one
-    where
-      by-one : ℕ → ℕ
-      by-one j = cond (sound faulty j) (sentByOne j) 0
 
   one-at-most : (b : Bool) → cond b 0 1 ≤ 1
   one-at-most true = omega arith
@@ -61,13 +61,10 @@ module _ (n t faulty : ℕ) (rows lists table : List ℕ) where
       (subst (λ (m : ℕ). (n - 1) * sum n by-one ≤ m) size
       (mul-le-mul-left (n - 1) (sum-at-most n (1 + 2 * n) by-one (λ j l. at-most (sound faulty j) j))))
     where
-      by-one : ℕ → ℕ
-      by-one j = cond (sound faulty j) (sentByOne j) 0
-
       size : (n - 1) * (n * (1 + 2 * n)) ≡ n * (n - 1) * (1 + 2 * n)
       size = sym (mul-assoc (n - 1) n (1 + 2 * n)) ∙ ap (λ (m : ℕ). m * (1 + 2 * n)) (mul-comm (n - 1) n)
 
--- the limit of a run's largest number of boxes
+-- n is at most 13, so one iteration sends at most 4,212
 pub limit-le : {n : ℕ} → n ≤ 13 → messageLimit n ≤ 4212
 limit-le {n} high =
     let others : n - 1 ≤ 12 = omega arith in

@@ -1,6 +1,6 @@
 -- The number of messages as the code counts it: the rows of step 1, the cells of step 2 and the cells of step 3 that
--- are not 0, each sent to the n − 1 others. It is the definition's sum over senders and receivers, since a faulty box's cells
--- are 0.
+-- are not 0, each sent to the n − 1 others. It is the definition's sum over senders and receivers, since a faulty
+-- box's cells are 0.
 -- Assumes nothing.
 use mathlib.Core.Path.{_≡_, refl, sym, ap, ap₂, _∙_}
 use mathlib.Core.Bool.{Bool, true, false, cond, not, _&&_}

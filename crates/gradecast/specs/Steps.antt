@@ -34,16 +34,16 @@ sends faulty table j place m = cond (member faulty j) (getD table place 0) m
 unfoldable pub hears : ℕ → ℕ → ℕ → ℕ
 hears list j m = cond (member list j) 0 m
 
+-- the receivers of what box j sends are all boxes but j, faulty ones too: a box hears itself, but not by radio
+abbrev pub receives : ℕ → ℕ → Bool
+receives j i = not (eqb i j)
+
 -- What a sound box sends is named once for each step, sent1 to sent3: what is heard cites it, and so does what is
 -- counted.
 
 -- step 1: a sound box j sends its row to all n boxes
 abbrev pub sent1 : List ℕ → ℕ → ℕ
 sent1 rows j = getD rows j 0
-
--- a box does not radio to itself: what box j sends goes to every other box i, sound or faulty
-abbrev pub receives : ℕ → ℕ → Bool
-receives j i = not (eqb i j)
 
 module _ (n faulty : ℕ) (rows lists table : List ℕ) where
   -- step 1, V[k]: what box i hears from k
@@ -94,10 +94,10 @@ module _ (n t faulty : ℕ) (rows lists table : List ℕ) where
       count n (λ k. not (eqb (sent2 n faulty rows lists table j k) 0)) +
       count n (λ k. not (eqb (sent3 j k) 0))
 
-  -- messages of one iteration: by every sound sender to every box that receives them
+  -- messages of one iteration: by every sound sender to each of its receivers
   unfoldable pub messages : ℕ
   messages = sum n (λ j. sum n (λ i. cond (sound faulty j && receives j i) (sentTo j i) 0))
 
--- the most messages of one iteration: by each of n boxes to n − 1 others, a row in step 1 and n in steps 2 and 3 each
+-- the limit for one iteration: each of n boxes sends n − 1 others a row in step 1 and n rows in each of steps 2 and 3
 abbrev pub messageLimit : ℕ → ℕ
 messageLimit n = n * (n - 1) * (1 + 2 * n)
