@@ -1,5 +1,5 @@
--- `run::has_too_many_sent` meets its contract: its limit is the definition's, and since n is from 1 to 13 nothing falls
--- below 0 or overflows. Assumes nothing.
+-- `run::has_too_many_sent` meets its contract: its limit is the definition's, and since n is from 1 to 13, nothing
+-- falls below 0 or overflows. Assumes nothing.
 use mathlib.Core.Path.{refl}
 use Prim.Native.Nat.{ℕ, _+_, _-_, _*_, _≤_}
 use native.Mathlib.Nat.{lt-of-le-of-lt, mul-le-mul}
