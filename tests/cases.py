@@ -84,7 +84,7 @@ def two_boxes():
     yield steps_bytes(2, 0, 0, [5, 6], [1], Table(2).rows), steps_line(6, [0, 6, 0, 6], [0, 2, 0, 2])
 
 
-def most_messages():
+def at_the_limit():
     """A state with the most messages there can be, and one more: case S, where an iteration sends at most 108, and
     thirteen sound boxes, who send 4,212 in each. For four boxes 144 is the number of a table's rows."""
     rows, lists, table = [10, 20, 10], [8, 8, 8], Table(4)
@@ -224,7 +224,7 @@ def files():
 
 
 def all_cases():
-    for part in (votes_and_grades, choices, sizes, iterations, two_boxes, most_messages, wide_states, constants, tests,
+    for part in (votes_and_grades, choices, sizes, iterations, two_boxes, at_the_limit, wide_states, constants, tests,
                  steps, lines, parts, files):
         for data, line_due in part():
             yield Request(data, "written by hand", None, line_due)

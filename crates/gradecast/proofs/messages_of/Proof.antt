@@ -40,7 +40,7 @@ all-small c =
     let size = length-filled (s .args .third .now) (p .1) (p .3) in
     omega (arith, square-le (p .1), first-small (second c), c .sent-in2 .ensures .1, size)
 
--- some of 13 boxes
+-- whatever is taken off n, the product fits: how much it must be is a matter of what is returned alone
 fewer : {n : ℕ} (k : ℕ) → n ≤ 13 → n - k ≤ 13
 fewer k high = omega arith
 

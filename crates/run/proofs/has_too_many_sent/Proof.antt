@@ -9,7 +9,7 @@ use borrow.Author.Needs.{needs}
 use Rattle.run.proofs.has_too_many_sent.Statement.{statement}
 use Rattle.run.proofs.has_too_many_sent.Tie as tie
 
--- n boxes and some of them: what is multiplied stays small
+-- whatever is taken off n, the products fit: how much it must be is a matter of what is returned alone
 pairs-few : (n k : ℕ) → n ≤ 13 → n * (n - k) ≤ 13 * 13
 pairs-few n k high = let fewer : n - k ≤ 13 = omega arith in mul-le-mul high fewer
 
