@@ -67,7 +67,8 @@ sum-mono (suc n) f g h = add-le-add (sum-mono n f g (lower n h)) (h n (le-refl _
 pub sum-const : (n c : ℕ) → sum n (λ k. c) ≡ n * c
 unfolding sum
 sum-const zero c = sym (mul-comm 0 c ∙ mul-zero c)
-sum-const (suc n) c = ap (λ (m : ℕ). m + c) (sum-const n c ∙ mul-comm n c) ∙ sym (mul-comm (suc n) c ∙ mul-suc c n)
+sum-const (suc n) c =
+    ap (λ (m : ℕ). m + c) (sum-const n c ∙ mul-comm n c) ∙ sym (mul-comm (suc n) c ∙ mul-suc c n)
 
 -- a sum of n numbers, each at most c, is at most n times c
 pub sum-at-most : (n c : ℕ) (f : ℕ → ℕ) → ((k : ℕ) → k < n → f k ≤ c) → sum n f ≤ n * c
@@ -127,7 +128,8 @@ one-le true = omega arith
 one-le false = omega arith
 
 -- a loop's turn puts the highest index on, and the code counts by n + 1
-pub count-turn : (n : ℕ) (p : ℕ → Bool) {c r : ℕ} → c ≡ count n p → r ≡ cond (p n) 1 0 → c + r ≡ count (n + 1) p
+pub count-turn : (n : ℕ) (p : ℕ → Bool) {c r : ℕ} → c ≡ count n p → r ≡ cond (p n) 1 0 →
+    c + r ≡ count (n + 1) p
 unfolding count
 count-turn n p h e = rw add-one (ap₂ _+_ h e)
 
@@ -140,7 +142,8 @@ implied true b h = rw (h refl) (le-refl _)
 implied false b h = omega arith
 
 -- a larger test counts no less
-pub count-mono : (n : ℕ) (p q : ℕ → Bool) → ((k : ℕ) → k < n → p k ≡ true → q k ≡ true) → count n p ≤ count n q
+pub count-mono : (n : ℕ) (p q : ℕ → Bool) → ((k : ℕ) → k < n → p k ≡ true → q k ≡ true) →
+    count n p ≤ count n q
 unfolding count
 count-mono zero p q h = (le-refl _)
 count-mono (suc n) p q h = add-le-add (count-mono n p q (lower n h)) (implied (p n) (q n) (h n (le-refl _)))
@@ -151,7 +154,8 @@ count-le zero p = (le-refl _)
 count-le (suc n) p = omega (arith, count-le n p, one-le (p n))
 
 -- the counter of a loop is at most the turns made
-pub count-turn-le : (n : ℕ) (p : ℕ → Bool) {c r : ℕ} → c ≡ count n p → r ≡ cond (p n) 1 0 → c + r ≤ n + 1
+pub count-turn-le : (n : ℕ) (p : ℕ → Bool) {c r : ℕ} → c ≡ count n p → r ≡ cond (p n) 1 0 →
+    c + r ≤ n + 1
 count-turn-le n p h e = omega (arith, h, e, count-le n p, one-le (p n))
 
 inclusion : (a b : Bool) → cond a 1 0 + cond b 1 0 ≡ cond (a || b) 1 0 + cond (a && b) 1 0
@@ -173,7 +177,8 @@ complement true false = refl
 complement false b = refl
 
 -- a count is parted by any second test
-pub count-parted : (n : ℕ) (p q : ℕ → Bool) → count n p ≡ count n (λ k. p k && q k) + count n (λ k. p k && not (q k))
+pub count-parted : (n : ℕ) (p q : ℕ → Bool) →
+    count n p ≡ count n (λ k. p k && q k) + count n (λ k. p k && not (q k))
 unfolding count
 count-parted zero p q = refl
 count-parted (suc n) p q = let i = complement (p n) (q n) in let h = count-parted n p q in omega arith
@@ -215,7 +220,8 @@ unfolding count
 count-more zero p q h = absurd (not-suc-le-zero h)
 count-more (suc n) p q h = go (p n) (q n) refl refl (λ l. widen n p q (count-more n p q l))
   where
-    go : (a b : Bool) → p n ≡ a → q n ≡ b → (count n p < count n q → Between (suc n) p q) → Between (suc n) p q
+    go : (a b : Bool) → p n ≡ a → q n ≡ b → (count n p < count n q → Between (suc n) p q) →
+        Between (suc n) p q
     go false true e f rest = record { at = n; below = le-refl _; passes = f; fails = e }
     go true true e f rest = rest (omega (arith, rw (e, f) at h))
     go true false e f rest = rest (omega (arith, rw (e, f) at h))
@@ -242,7 +248,8 @@ some-count n p k l t = go (count n p) refl
     go zero e = never t (count-zero n p e k l)
 
 -- a larger test that passes a place more counts more
-pub count-strict : (n : ℕ) (p q : ℕ → Bool) → ((k : ℕ) → k < n → p k ≡ true → q k ≡ true) → (k : ℕ) → k < n →
+pub count-strict : (n : ℕ) (p q : ℕ → Bool) → ((k : ℕ) → k < n → p k ≡ true → q k ≡ true) →
+    (k : ℕ) → k < n →
     p k ≡ false → q k ≡ true → count n p < count n q
 count-strict n p q h k l fails passes =
     omega (
@@ -301,12 +308,14 @@ find-cases (suc n) p f = go (p (f n)) refl (find-cases n p f)
   where
     go : (b : Bool) → p (f n) ≡ b →
         Found n p f (find n p f) ⊎ ((find n p f ≡ 0) × ((k : ℕ) → k < n → p (f k) ≡ false)) →
-        Found (suc n) p f (find (suc n) p f) ⊎ ((find (suc n) p f ≡ 0) × ((k : ℕ) → k < suc n → p (f k) ≡ false))
+        Found (suc n) p f (find (suc n) p f) ⊎
+        ((find (suc n) p f ≡ 0) × ((k : ℕ) → k < suc n → p (f k) ≡ false))
     go true e rest = inl (rw e (record { at = n; below = le-refl _; here = refl; passes = e }))
     go false e (inl w) =
         inl (rw e (record { at = w .at; below = omega arith; here = w .here; passes = w .passes }))
     go false e (inr w) =
-        inr (rw e (w .0), λ k l. ⊎-elim (λ q. ap (λ (m : ℕ). p (f m)) q ∙ e) (λ b. w .1 k b) (at-or-below k n l))
+        inr
+        (rw e (w .0), λ k l. ⊎-elim (λ q. ap (λ (m : ℕ). p (f m)) q ∙ e) (λ b. w .1 k b) (at-or-below k n l))
 
 -- the turn of a loop that looks for a place, and has found none so far
 pub any-ext : (n : ℕ) (p q : ℕ → Bool) → ((k : ℕ) → k < n → p k ≡ q k) → any n p ≡ any n q
@@ -336,11 +345,13 @@ count-first a n p l h = count-some a p (omega (arith, parts, count-le (n - a) (�
     parts = ap (λ (m : ℕ). count m p) whole ∙ count-add a (n - a) p
 
 -- a count over m rows of n places is the sum of the rows' counts
-pub count-rows : (m n : ℕ) (p : ℕ → ℕ → Bool) → count (m * n) (λ q. p (q / n) (q % n)) ≡ sum m (λ i. count n (p i))
+pub count-rows : (m n : ℕ) (p : ℕ → ℕ → Bool) →
+    count (m * n) (λ q. p (q / n) (q % n)) ≡ sum m (λ i. count n (p i))
 unfolding sum
 count-rows zero n p = rw zero-mul (unfold count in refl)
 count-rows (suc m) n p =
     rw suc-mul
     (count-add (m * n) n (λ q. p (q / n) (q % n))
     ∙ ap₂ _+_ (count-rows m n p)
-    (count-ext n (λ k. p ((m * n + k) / n) ((m * n + k) % n)) (p m) (λ k l. ap₂ p (digits-div m l) (digits-mod m l))))
+    (count-ext n (λ k. p ((m * n + k) / n) ((m * n + k) % n)) (p m)
+    (λ k l. ap₂ p (digits-div m l) (digits-mod m l))))

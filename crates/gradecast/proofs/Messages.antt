@@ -22,20 +22,23 @@ module _ (n t faulty : ℕ) (rows lists table : List ℕ) where
   abbrev by-one : ℕ → ℕ
   by-one j = cond (sound faulty j) (sentByOne j) 0
 
-  -- a sender that is sound or not, to a box that receives or not
-  parted : (b c : Bool) (x : ℕ) → cond (b && c) x 0 ≡ cond c (cond b x 0) 0
-  parted true c x = refl
-  parted false true x = refl
-  parted false false x = refl
+  -- what box j sends to box i: nothing where it is faulty or i is j itself
+  abbrev to-one : ℕ → ℕ → ℕ
+  to-one j i = cond (sound faulty j && receives j i) (sentByOne j) 0
+
+  cond-and : (b c : Bool) (x : ℕ) → cond (b && c) x 0 ≡ cond c (cond b x 0) 0
+  cond-and true c x = refl
+  cond-and false true x = refl
+  cond-and false false x = refl
 
   -- the quick formula
   pub messages-quick : messages n t faulty rows lists table ≡ (n - 1) * sum n by-one
   unfolding messages sentTo
   messages-quick =
-      sum-ext n (λ j. sum n (λ i. cond (sound faulty j && receives j i) (sentByOne j) 0)) (λ j. (n - 1) * by-one j)
+      sum-ext n (λ j. sum n (to-one j)) (λ j. (n - 1) * by-one j)
       (λ j l.
-      sum-ext n (λ i. cond (sound faulty j && receives j i) (sentByOne j) 0) (λ i. cond (receives j i) (by-one j) 0)
-      (λ i m. parted (sound faulty j) (receives j i) (sentByOne j))
+      sum-ext n (to-one j) (λ i. cond (receives j i) (by-one j) 0)
+      (λ i m. cond-and (sound faulty j) (receives j i) (sentByOne j))
       ∙ sum-others n j (by-one j) l)
       ∙ sum-scale n (n - 1) by-one
 
@@ -64,9 +67,18 @@ module _ (n t faulty : ℕ) (rows lists table : List ℕ) where
       size : (n - 1) * (n * (1 + 2 * n)) ≡ n * (n - 1) * (1 + 2 * n)
       size = sym (mul-assoc (n - 1) n (1 + 2 * n)) ∙ ap (λ (m : ℕ). m * (1 + 2 * n)) (mul-comm (n - 1) n)
 
--- n is at most 13, so one iteration sends at most 4,212
+-- n is at most 13. So these are small, whatever k is taken off: n − k boxes, the pairs of a box and one of those, and
+-- the rows between such pairs.
+module _ {n : ℕ} (k : ℕ) (high : n ≤ 13) where
+  pub others-le : n - k ≤ 13 - k
+  others-le = omega arith
+
+  pub pairs-le : n * (n - k) ≤ 13 * (13 - k)
+  pairs-le = mul-le-mul high others-le
+
+  pub between-le : n * (n - k) * (1 + 2 * n) ≤ 13 * (13 - k) * 27
+  between-le = let rows : 1 + 2 * n ≤ 27 = omega arith in mul-le-mul pairs-le rows
+
+-- so one iteration sends at most 4,212
 pub limit-le : {n : ℕ} → n ≤ 13 → messageLimit n ≤ 4212
-limit-le {n} high =
-    let others : n - 1 ≤ 12 = omega arith in
-    let rows : 1 + 2 * n ≤ 27 = omega arith in
-    mul-le-mul (mul-le-mul high others) rows
+limit-le = between-le 1

@@ -10,7 +10,7 @@ use native.Mathlib.Omega.{arith}
 use lib.Dec.{eqb, ltb}
 use lib.ListN.{getD}
 use lib.Pow.{pow-pos}
-use borrow.Author.Tests.{eq-eqb, ltb-false, le-ltb}
+use borrow.Author.Tests.{eq-eqb, le-ltb}
 use Rattle.counting.specs.Sets.{member}
 use Rattle.counting.proofs.Bools.{never, not-of-true, or-none, cond-true}
 use Rattle.counting.proofs.Count.{none-any}
@@ -35,6 +35,7 @@ use Rattle.run.specs.State.{
   iterateReply,
 }
 use Rattle.run.specs.Legal.{Legal}
+use Rattle.run.proofs.Fits.{sent-within}
 use Rattle.run.proofs.Kept.{
   start-row,
   start-list,
@@ -87,7 +88,7 @@ module _ (s : Run) (table : List ℕ) (legal : Legal s) where
       (omega (
         arith,
         add-mul (s .done) 1 (messageLimit (s .n)),
-        ltb-false (s .done * messageLimit (s .n)) (s .sent) (legal .pass14-sent),
+        sent-within s legal,
         messages-bound (s .n) (s .t) (s .faulty) (s .rows) (s .lists) table,
       ))
 

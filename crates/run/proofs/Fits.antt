@@ -155,9 +155,11 @@ module _ (s : Run) (legal : Legal s) where
       (bad-box (s .n) (s .faulty) k (getD (s .rows) k 0) (getD (s .lists) k 0) (is-box b)
       ∙ any-none 13 (badPlace s) (legal .pass14-places) k (omega arith))
 
-  pub sent-at-most : s .sent ≤ s .done * 4212
+  pub sent-within : s .sent ≤ s .done * messageLimit (s .n)
   unfolding tooManySent
+  sent-within = ltb-false (s .done * messageLimit (s .n)) (s .sent) (legal .pass14-sent)
+
+  pub sent-at-most : s .sent ≤ s .done * 4212
   sent-at-most =
-      let most = ltb-false (s .done * messageLimit (s .n)) (s .sent) (legal .pass14-sent) in
-      let whole = mul-le-mul-left (s .done) (limit-le (inside-high (s .n) (legal .pass4))) in
-      omega arith
+      let most = mul-le-mul-left (s .done) (limit-le (inside-high (s .n) (legal .pass4))) in
+      omega (arith, sent-within, most)

@@ -4,17 +4,15 @@ use mathlib.Core.Path.{_≡_, refl, sym, ap, _∙_}
 use mathlib.Core.Bool.{Bool, true, false, cond, _&&_}
 use mathlib.Core.List.{List}
 use Prim.Native.Nat.{ℕ, _+_, _*_, _≤_, _<_}
-use native.Mathlib.Nat.{mul-le-mul}
 use native.Mathlib.Omega.{arith}
 use lib.Dec.{ltb}
 use lib.ListN.{length}
-use borrow.Author.Tests.{ltb-false}
 use Rattle.counting.specs.Count.{build}
 use Rattle.counting.proofs.Build.{build-ext}
 use Rattle.sizes.specs.Sizes.{sound}
 use Rattle.sizes.proofs.Laws.{inside-low, inside-high, tolerated-lt}
 use Rattle.gradecast.specs.declared.Cast.{Cast}
-use Rattle.gradecast.specs.Steps.{messages, messageLimit}
+use Rattle.gradecast.specs.Steps.{messages}
 use Rattle.gradecast.specs.Cast.{castOf, castReply}
 use Rattle.gradecast.specs.Inside.{Ready}
 use Rattle.gradecast.proofs.Cells.{length-cells}
@@ -23,9 +21,9 @@ use Rattle.gradecast.proofs.Replies.{cast-taken, ready-passes}
 use Rattle.run.specs.declared.Run.{Run}
 use Rattle.run.specs.Inside.{GradesOf, AllCells, listFrom}
 use Rattle.run.specs.Iteration.{entry, newRow, newList, nextRun}
-use Rattle.run.specs.State.{tooManySent}
 use Rattle.run.proofs.Accepted.{Iterable}
 use Rattle.run.proofs.Entries.{is-box, is-sound}
+use Rattle.run.proofs.Fits.{sent-at-most}
 use Rattle.run.proofs.Parts.{list-of}
 
 module _ (s : Run) (table : List ℕ) (a : Iterable s table) where
@@ -45,10 +43,6 @@ module _ (s : Run) (table : List ℕ) (a : Iterable s table) where
   pub done-small : s .done ≤ 4
   done-small = omega (arith, a .done-few, few, high)
 
-  sent-few : s .sent ≤ s .done * messageLimit (s .n)
-  unfolding tooManySent
-  sent-few = ltb-false (s .done * messageLimit (s .n)) (s .sent) (a .legal .pass14-sent)
-
   module _ (r : Cast) (e : r ≡ castReply (s .n) (s .t) (s .faulty) (s .rows) (s .lists) table) where
     -- an accepted iteration's steps are not refused
     found : r ≡ castOf (s .n) (s .t) (s .faulty) (s .rows) (s .lists) table
@@ -64,8 +58,8 @@ module _ (s : Run) (table : List ℕ) (a : Iterable s table) where
     sent-small =
         omega (
           arith,
-          sent-few,
-          mul-le-mul done-small (limit-le high),
+          sent-at-most s (a .legal),
+          done-small,
           limit-le high,
           sent-is,
           messages-bound (s .n) (s .t) (s .faulty) (s .rows) (s .lists) table,

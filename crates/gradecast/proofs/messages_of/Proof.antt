@@ -5,6 +5,7 @@ use Prim.Native.Nat.{ℕ, _+_, _-_, _*_, _≤_}
 use native.Mathlib.Nat.{lt-of-le-of-lt, mul-le-mul-right}
 use native.Mathlib.Omega.{arith}
 use Rattle.sizes.proofs.Laws.{square-le}
+use Rattle.gradecast.proofs.Messages.{others-le}
 use Rattle.gradecast.proofs.Sent.{length-filled, messages-counted}
 use borrow.Author.Needs.{needs}
 use Rattle.gradecast.proofs.messages_of.Statement.{statement}
@@ -40,10 +41,6 @@ all-small c =
     let size = length-filled (s .args .third .now) (p .1) (p .3) in
     omega (arith, square-le (p .1), first-small (second c), c .sent-in2 .ensures .1, size)
 
--- whatever is taken off n, the product fits: how much it must be is a matter of what is returned alone
-fewer : {n : ℕ} (k : ℕ) → n ≤ 13 → n - k ≤ 13
-fewer k high = omega arith
-
 mul-size : tie.Need-mul-size
 mul-size c = omega (arith, square-le (c .before .before .pre .1))
 
@@ -74,7 +71,7 @@ sub-result c = let low = start (first (second c)) .pre .0 in omega (arith, low)
 mul-result : tie.Need-mul-result
 mul-result c =
     let high = start (first (second c)) .pre .1 in
-    record { fits = lt-of-le-of-lt (mul-le-mul-right (boxes c) (fewer _ high)) (omega (arith, all-small c)) }
+    record { fits = lt-of-le-of-lt (mul-le-mul-right (boxes c) (others-le _ high)) (omega (arith, all-small c)) }
 
 returns : tie.Need-returns
 returns c =

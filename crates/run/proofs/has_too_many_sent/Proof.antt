@@ -1,20 +1,14 @@
 -- `run::has_too_many_sent` meets its contract: its limit is the definition's, and since n is from 1 to 13, nothing
 -- falls below 0 or overflows. Assumes nothing.
 use mathlib.Core.Path.{refl}
-use Prim.Native.Nat.{ℕ, _+_, _-_, _*_, _≤_}
+use Prim.Native.Nat.{_≤_}
 use native.Mathlib.Nat.{lt-of-le-of-lt, mul-le-mul}
 use native.Mathlib.Omega.{arith}
+use Rattle.gradecast.proofs.Messages.{pairs-le, between-le}
 use Rattle.run.specs.State.{tooManySent}
 use borrow.Author.Needs.{needs}
 use Rattle.run.proofs.has_too_many_sent.Statement.{statement}
 use Rattle.run.proofs.has_too_many_sent.Tie as tie
-
--- whatever is taken off n, the products fit: how much it must be is a matter of what is returned alone
-pairs-few : (n k : ℕ) → n ≤ 13 → n * (n - k) ≤ 13 * 13
-pairs-few n k high = let fewer : n - k ≤ 13 = omega arith in mul-le-mul high fewer
-
-limit-few : (n k : ℕ) → n ≤ 13 → n * (n - k) * (1 + 2 * n) ≤ 13 * 13 * 27
-limit-few n k high = let rows : 1 + 2 * n ≤ 27 = omega arith in mul-le-mul (pairs-few n k high) rows
 
 cast-n : tie.Need-cast-n
 cast-n c = search needs
@@ -23,7 +17,7 @@ sub-limit : tie.Need-sub-limit
 sub-limit c = search needs
 
 mul-limit : tie.Need-mul-limit
-mul-limit c = record { fits = lt-of-le-of-lt (pairs-few _ _ (c .before .pre .1)) (omega arith) }
+mul-limit c = record { fits = lt-of-le-of-lt (pairs-le _ (c .before .pre .1)) (omega arith) }
 
 mul-limit-2 : tie.Need-mul-limit-2
 mul-limit-2 c = omega (arith, c .before .pre .1)
@@ -32,7 +26,7 @@ add-limit : tie.Need-add-limit
 add-limit c = omega (arith, c .before .pre .1)
 
 mul-limit-3 : tie.Need-mul-limit-3
-mul-limit-3 c = record { fits = lt-of-le-of-lt (limit-few _ _ (c .before .pre .1)) (omega arith) }
+mul-limit-3 c = record { fits = lt-of-le-of-lt (between-le _ (c .before .pre .1)) (omega arith) }
 
 cast-result : tie.Need-cast-result
 cast-result c = search needs
@@ -40,7 +34,7 @@ cast-result c = search needs
 mul-result : tie.Need-mul-result
 mul-result c =
     let done : c .before .before .args .s .done ≤ 255 = search needs in
-    record { fits = lt-of-le-of-lt (mul-le-mul done (limit-few _ _ (c .before .before .pre .1))) (omega arith) }
+    record { fits = lt-of-le-of-lt (mul-le-mul done (between-le _ (c .before .before .pre .1))) (omega arith) }
 
 returns : tie.Need-returns
 unfolding tooManySent
