@@ -8,6 +8,7 @@ use mathlib.Core.List.{List}
 use mathlib.Core.Logic.{_⊎_, ⊎-elim, _↔_}
 use mathlib.Core.Logic._⊎_.{inl, inr}
 use Prim.Native.Nat.{ℕ, zero, suc, _+_, _-_, _*_, _≤_, _<_}
+use native.Mathlib.Decide.{ℕ-discrete}
 use native.Mathlib.Omega.{arith}
 use lib.Dec.{eqb, leb, ltb}
 use lib.ListN.{length, getD}
@@ -16,9 +17,9 @@ use Rattle.counting.specs.Count.{any, find}
 use Rattle.counting.specs.Most.{places, support, most}
 use Rattle.counting.proofs.Bools.{never, and-left, and-right, not-true, cond-true, cond-false}
 use Rattle.counting.proofs.Build.{length-build, getD-build, built}
-use Rattle.counting.proofs.Count.{any-none, find-cases}
+use Rattle.counting.proofs.Count.{any-none, find-cases, count-le}
 use Rattle.counting.proofs.Most.{Stands, IsMost, support-places, support-first, supported, most-is, most-unique}
-use Rattle.counting.proofs.Most.{most-stands, most-zero}
+use Rattle.counting.proofs.Most.{support-zero, most-supported, most-stands, most-zero}
 use Rattle.counting.proofs.Places.{places-one, most-majority}
 use Rattle.tally.specs.Tally.{
   carried,
@@ -30,6 +31,7 @@ use Rattle.tally.specs.Tally.{
   counted,
   chosenRow,
 }
+use Rattle.tally.specs.Support.{Fits}
 use Rattle.tally.proofs.Carried.{carried-enough}
 
 -- v is a non-zero row that stands at least n − t times
@@ -100,55 +102,90 @@ pub places-support : (xs : List ℕ) (v : ℕ) → (v ≡ 0 → ⊥) → places 
 unfolding supportOf
 places-support xs v z = subst (λ (m : ℕ). m ≤ support xs (most xs)) (support-places xs v z) (most-is xs .greatest v)
 
--- the three ranges of the support s, and the confidence c of each
-data Grading (t s c : ℕ) : Type 0 where
-  firm : 2 * t + 1 ≤ s → c ≡ 2 → Grading t s c
-  weak : t < s → s < 2 * t + 1 → c ≡ 1 → Grading t s c
-  low : s ≤ t → c ≡ 0 → Grading t s c
+-- nor has it more places than there are
+pub support-le : (xs : List ℕ) → supportOf xs ≤ length xs
+unfolding supportOf support places
+support-le xs = at-most (eqb (most xs) 0)
+  where
+    at-most : (zero-most : Bool) → cond zero-most 0 (places xs (most xs)) ≤ length xs
+    at-most true = omega arith
+    at-most false = count-le (length xs) (λ k. eqb (getD xs k 0) (most xs))
 
-firm-iff : {t s c : ℕ} → Grading t s c → (c ≡ 2) ↔ (2 * t + 1 ≤ s)
-firm-iff (firm a e) = (λ h. a, λ h. e)
-firm-iff (weak a b e) = (λ h. absurd (omega arith), λ h. absurd (omega arith))
-firm-iff (low a e) = (λ h. absurd (omega arith), λ h. absurd (omega arith))
+-- there is none where every row is 0, and only there
+pub support-none : (xs : List ℕ) → (supportOf xs ≡ 0) ↔ ((k : ℕ) → k < length xs → getD xs k 0 ≡ 0)
+unfolding supportOf
+support-none xs = (only, there)
+  where
+    only : support xs (most xs) ≡ 0 → (k : ℕ) → k < length xs → getD xs k 0 ≡ 0
+    only e = most-zero xs (go (ℕ-discrete (most xs) 0))
+      where
+        go : Dec (most xs ≡ 0) → most xs ≡ 0
+        go (yes z) = z
+        go (no z) = absurd (omega (arith, e, most-supported xs z))
 
-weak-iff : {t s c : ℕ} → Grading t s c → (c ≡ 1) ↔ ((t < s) × (s < 2 * t + 1))
-weak-iff (firm a e) = (λ h. absurd (omega arith), λ h. absurd (omega (arith, h .1)))
-weak-iff (weak a b e) = (λ h. (a, b), λ h. e)
-weak-iff (low a e) = (λ h. absurd (omega arith), λ h. absurd (omega (arith, h .0)))
+    there : ((k : ℕ) → k < length xs → getD xs k 0 ≡ 0) → support xs (most xs) ≡ 0
+    there h = go (ℕ-discrete (most xs) 0)
+      where
+        go : Dec (most xs ≡ 0) → support xs (most xs) ≡ 0
+        go (yes z) = ap (support xs) z ∙ support-zero xs
+        go (no z) = let s = most-stands xs z in absurd (z (sym (s .here) ∙ h (s .at) (s .below)))
 
-low-iff : {t s c : ℕ} → Grading t s c → (c ≡ 0) ↔ (s ≤ t)
-low-iff (firm a e) = (λ h. absurd (omega arith), λ h. absurd (omega arith))
-low-iff (weak a b e) = (λ h. absurd (omega arith), λ h. absurd (omega arith))
-low-iff (low a e) = (λ h. a, λ h. e)
+-- each confidence is one range of the support
+pub fits : (t s : ℕ) → Fits t s (confidenceAt t s)
+unfolding confidenceAt
+fits t s = go (leb (2 * t + 1) s) (ltb t s) refl refl
+  where
+    go : (a b : Bool) → leb (2 * t + 1) s ≡ a → ltb t s ≡ b → Fits t s (cond a 2 (cond b 1 0))
+    go true b e f =
+        let h = leb-true (2 * t + 1) s e in
+        record {
+          none = (λ q. absurd (omega arith), λ q. absurd (omega (arith, h)));
+          one = (λ q. absurd (omega arith), λ q. absurd (omega (arith, h, q .1)));
+          two = (λ q. h, λ q. refl);
+        }
+    go false true e f =
+        let low = ltb-true t s f in
+        let high = leb-false (2 * t + 1) s e in
+        record {
+          none = (λ q. absurd (omega arith), λ q. absurd (omega (arith, low)));
+          one = (λ q. (low, high), λ q. refl);
+          two = (λ q. absurd (omega arith), λ q. absurd (omega (arith, high)));
+        }
+    go false false e f =
+        let few = ltb-false t s f in
+        record {
+          none = (λ q. few, λ q. refl);
+          one = (λ q. absurd (omega arith), λ q. absurd (omega (arith, few, q .0)));
+          two = (λ q. absurd (omega arith), λ q. absurd (omega (arith, few)));
+        }
 
-at-most-2 : {t s c : ℕ} → Grading t s c → c ≤ 2
-at-most-2 (firm a e) = omega arith
-at-most-2 (weak a b e) = omega arith
-at-most-2 (low a e) = omega arith
+-- no confidence is above 2
+pub confidence-at-le : (t s : ℕ) → confidenceAt t s ≤ 2
+unfolding confidenceAt
+confidence-at-le t s = go (leb (2 * t + 1) s) (ltb t s)
+  where
+    go : (a b : Bool) → cond a 2 (cond b 1 0) ≤ 2
+    go true b = omega arith
+    go false true = omega arith
+    go false false = omega arith
 
 module _ (t : ℕ) (xs : List ℕ) where
-  grading : Grading t (supportOf xs) (confidenceOf t xs)
-  unfolding confidenceOf confidenceAt
-  grading = go (leb (2 * t + 1) (supportOf xs)) (ltb t (supportOf xs)) refl refl
-    where
-      go : (a b : Bool) → leb (2 * t + 1) (supportOf xs) ≡ a → ltb t (supportOf xs) ≡ b →
-          Grading t (supportOf xs) (cond a 2 (cond b 1 0))
-      go true b e f = firm (leb-true (2 * t + 1) (supportOf xs) e) refl
-      go false true e f = weak (ltb-true t (supportOf xs) f) (leb-false (2 * t + 1) (supportOf xs) e) refl
-      go false false e f = low (ltb-false t (supportOf xs) f) refl
-
   -- confidence 2, 1 and 0 by the support
   pub confidence-2 : (confidenceOf t xs ≡ 2) ↔ (2 * t + 1 ≤ supportOf xs)
-  confidence-2 = firm-iff grading
+  unfolding confidenceOf
+  confidence-2 = fits t (supportOf xs) .two
 
   pub confidence-1 : (confidenceOf t xs ≡ 1) ↔ ((t < supportOf xs) × (supportOf xs < 2 * t + 1))
-  confidence-1 = weak-iff grading
+  unfolding confidenceOf
+  confidence-1 = fits t (supportOf xs) .one
 
   pub confidence-0 : (confidenceOf t xs ≡ 0) ↔ (supportOf xs ≤ t)
-  confidence-0 = low-iff grading
+  unfolding confidenceOf
+  confidence-0 = fits t (supportOf xs) .none
 
   pub confidence-le : confidenceOf t xs ≤ 2
-  confidence-le = at-most-2 grading
+  unfolding confidenceOf
+  confidence-le = confidence-at-le t (supportOf xs)
 
   -- confidence 0 comes with row 0
   pub graded-none : confidenceOf t xs ≡ 0 → gradedRow t xs ≡ 0

@@ -4,3 +4,4 @@ pub mod Leads
 pub mod Replies
 pub mod Taken
 pub mod Calls
+pub mod Support

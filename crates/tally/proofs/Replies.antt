@@ -55,22 +55,27 @@ module _ (xs : List ℕ) (t : ℕ) where
   vote-taken row e h = rw (e, h) refl
 
   pub grade-refused : (r : ℕ) → r ≡ sizeRefusal (length xs) t → (r ≡ 0 → ⊥) →
-      _≡_ {A = Graded} (record { refusal = r; row = 0; confidence = 0 }) (gradeReply xs t)
+      _≡_ {A = Graded} (record { refusal = r; row = 0; confidence = 0; support = 0 }) (gradeReply xs t)
   unfolding gradeReply unless
   grade-refused r e h = rw (← e, ne-eqb r 0 h) refl
 
-  pub grade-taken : (row confidence : ℕ) → sizeRefusal (length xs) t ≡ 0 → row ≡ gradedRow t xs →
-      confidence ≡ confidenceOf t xs →
-      _≡_ {A = Graded} (record { refusal = 0; row = row; confidence = confidence }) (gradeReply xs t)
+  pub grade-taken : (row confidence support : ℕ) → sizeRefusal (length xs) t ≡ 0 → row ≡ gradedRow t xs →
+      confidence ≡ confidenceOf t xs → support ≡ supportOf xs →
+      _≡_ {A = Graded} (record { refusal = 0; row = row; confidence = confidence; support = support })
+      (gradeReply xs t)
   unfolding gradeReply unless
-  grade-taken row confidence e h k = rw (e, h, k) refl
+  grade-taken row confidence support e h k l = rw (e, h, k, l) refl
 
   -- what the lead gives: its support is the support of the grade, and its row is the graded row where the confidence
   -- is not 0
+  pub lead-support : (lead : Lead) → lead ≡ leadOf xs (most xs) → lead .support ≡ supportOf xs
+  unfolding leadOf supportOf
+  lead-support lead e = ap (λ (l : Lead). l .support) e
+
   pub lead-confidence : (lead : Lead) (c : ℕ) → lead ≡ leadOf xs (most xs) → c ≡ confidenceAt t (lead .support) →
       c ≡ confidenceOf t xs
-  unfolding leadOf confidenceOf supportOf
-  lead-confidence lead c e h = h ∙ ap (λ (l : Lead). confidenceAt t (l .support)) e
+  unfolding confidenceOf
+  lead-confidence lead c e h = h ∙ ap (confidenceAt t) (lead-support lead e)
 
   pub lead-row : (lead : Lead) → lead ≡ leadOf xs (most xs) → (confidenceOf t xs ≡ 0 → ⊥) → lead .row ≡ gradedRow t xs
   unfolding leadOf gradedRow

@@ -15,7 +15,7 @@ use Rattle.sizes.proofs.Laws.{inside, sized-passes}
 use Rattle.tally.specs.declared.Voted.{Voted}
 use Rattle.tally.specs.declared.Graded.{Graded}
 use Rattle.tally.specs.declared.Chosen.{Chosen}
-use Rattle.tally.specs.Tally.{carried, voteOf, twoRows, confidenceOf, gradedRow, chosenRow, above2}
+use Rattle.tally.specs.Tally.{carried, voteOf, twoRows, supportOf, confidenceOf, gradedRow, chosenRow, above2}
 use Rattle.tally.specs.Reply.{choiceRefusal, voteReply, gradeReply, choiceReply}
 use Rattle.tally.proofs.Laws.{carried-stands, carried-one}
 use Rattle.tally.proofs.Replies.{vote-passes, vote-taken, grade-taken, choice-taken}
@@ -48,15 +48,19 @@ module _ (xs : List ℕ) (t : ℕ) (s : Sized (length xs) t) where
       (vote-passes xs t (sized-passes (length xs) t s) ∙ cond-false 7 0 (never-two t xs (s .tolerated)))
       refl))
 
-  graded : _≡_ {A = Graded} (record { refusal = 0; row = gradedRow t xs; confidence = confidenceOf t xs })
+  graded : _≡_ {A = Graded}
+      (record { refusal = 0; row = gradedRow t xs; confidence = confidenceOf t xs; support = supportOf xs })
       (gradeReply xs t)
-  graded = grade-taken xs t (gradedRow t xs) (confidenceOf t xs) (sized-passes (length xs) t s) refl refl
+  graded = grade-taken xs t _ _ _ (sized-passes (length xs) t s) refl refl refl
 
   pub grade-row : gradeReply xs t .row ≡ gradedRow t xs
   grade-row = ap (λ (r : Graded). r .row) (sym graded)
 
   pub grade-confidence : gradeReply xs t .confidence ≡ confidenceOf t xs
   grade-confidence = ap (λ (r : Graded). r .confidence) (sym graded)
+
+  pub grade-support : gradeReply xs t .support ≡ supportOf xs
+  grade-support = ap (λ (r : Graded). r .support) (sym graded)
 
 -- a choice over 1 to 13 rows and as many confidences, none above 2
 pub choice-row : (rows confidences : List ℕ) → 1 ≤ length rows → length rows ≤ 13 → length rows ≡ length confidences →

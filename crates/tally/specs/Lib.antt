@@ -1,3 +1,4 @@
 pub mod Tally
 pub mod Reply
+pub mod Support
 pub mod Inside

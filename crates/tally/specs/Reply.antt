@@ -11,7 +11,16 @@ use Rattle.sizes.specs.Sizes.{outside, tooMany, sizeRefusal}
 use Rattle.tally.specs.declared.Voted.{Voted}
 use Rattle.tally.specs.declared.Graded.{Graded}
 use Rattle.tally.specs.declared.Chosen.{Chosen}
-use Rattle.tally.specs.Tally.{twoRows, voteOf, gradedRow, confidenceOf, chosenRow, firmLeaders, above2}
+use Rattle.tally.specs.Tally.{
+  twoRows,
+  voteOf,
+  gradedRow,
+  confidenceOf,
+  supportOf,
+  chosenRow,
+  firmLeaders,
+  above2,
+}
 
 -- the refusals of a vote: 4, 5, 7
 unfoldable pub voteRefusal : ℕ → List ℕ → ℕ
@@ -36,13 +45,14 @@ unless refusal answer = cond (eqb refusal 0) answer 0
 unfoldable pub voteReply : List ℕ → ℕ → Voted
 voteReply xs t = record { refusal = voteRefusal t xs; row = unless (voteRefusal t xs) (voteOf t xs) }
 
--- a grade's whole reply: refusal, 4 or 5, row and confidence
+-- a grade's whole reply: refusal, 4 or 5, row, confidence and support
 unfoldable pub gradeReply : List ℕ → ℕ → Graded
 gradeReply xs t =
     record {
       refusal = sizeRefusal (length xs) t;
       row = unless (sizeRefusal (length xs) t) (gradedRow t xs);
       confidence = unless (sizeRefusal (length xs) t) (confidenceOf t xs);
+      support = unless (sizeRefusal (length xs) t) (supportOf xs);
     }
 
 -- a choice's whole reply: refusal, row and the number of confidence-2 leaders

@@ -15,11 +15,13 @@ pub struct Voted {
     pub row: u64,
 }
 
-// The reply of a grade: the row found most often and its confidence, 0 to 2.
+// The reply of a grade: the row found most often, its confidence, 0 to 2, and its support. The support stands also
+// where the confidence is 0 and the row with it.
 pub struct Graded {
     pub refusal: u8,
     pub row: u64,
     pub confidence: u8,
+    pub support: u8,
 }
 
 // The reply of a choice: the chosen row, and how many leaders with confidence 2 hold it.
@@ -148,19 +150,20 @@ fn lead_of(rows: &[u64]) -> Lead
 }
 
 // The confidence that a support gives.
-fn confidence_at(support: usize, t: u8) -> u8
+pub fn confidence_at(support: u8, t: u8) -> u8
     ensures { λ r. ⌜ r ≡ confidenceAt t support ⌝ }
 {
-    if 2 * (t as usize) + 1 <= support {
+    if 2 * (t as usize) + 1 <= (support as usize) {
         return 2;
     }
-    if (t as usize) < support {
+    if t < support {
         return 1;
     }
     0
 }
 
-// The grade of step 4: the non-zero row found most often, the lowest on a tie, and its confidence. Refusals 4, 5.
+// The grade of step 4: the non-zero row found most often, the lowest on a tie, with its confidence and its support.
+// Refusals 4, 5.
 pub fn grade(rows: &[u64], t: u8) -> Graded
     ensures { λ r. ⌜ r ≡ gradeReply (now (rows .entry)) t ⌝ }
 {
@@ -170,21 +173,25 @@ pub fn grade(rows: &[u64], t: u8) -> Graded
             refusal,
             row: 0,
             confidence: 0,
+            support: 0,
         };
     }
     let lead = lead_of(rows);
-    let confidence = confidence_at(lead.support, t);
+    let support = lead.support as u8;
+    let confidence = confidence_at(support, t);
     if confidence == 0 {
         return Graded {
             refusal: 0,
             row: 0,
             confidence: 0,
+            support,
         };
     }
     Graded {
         refusal: 0,
         row: lead.row,
         confidence,
+        support,
     }
 }
 
