@@ -8,7 +8,7 @@ use native.Mathlib.Nat.{le-refl, not-suc-le-zero, add-assoc}
 use native.Mathlib.Numerals.{add-one}
 use native.Mathlib.Omega.{arith}
 use lib.ListN.{length, getD, take, drop, set, length-append, length-drop, drop-of-length-le, List·getD-append}
-use lib.Seq.{getD-at, ext-getD, drop-cons, set-at, append-snoc, take-at}
+use lib.Seq.{getD-at, ext-getD, drop-cons, set-at, append-snoc, take-at, drop-at}
 use Rattle.counting.specs.Count.{build, front}
 use Rattle.counting.proofs.Count.{lower, at-or-below}
 
@@ -63,6 +63,15 @@ front-stays n f xs l h =
     ∙ ap (λ (x : ℕ). build n f ++ x ∷ drop (suc n) xs) h
     ∙ sym (append-snoc (build n f) (f n) (drop (suc n) xs)))
 
+-- and a front of such places
+pub front-same : (n : ℕ) (f : ℕ → ℕ) (xs : List ℕ) → n ≤ length xs → ((k : ℕ) → k < n → getD xs k 0 ≡ f k) →
+    xs ≡ front n f xs
+front-same zero f xs l h = front-none f xs
+front-same (suc n) f xs l h =
+    front-same n f xs (omega arith) (lower n h)
+    ∙ front-stays n f xs l (h n (le-refl _))
+    ∙ ap (λ (m : ℕ). front m f xs) (add-one n)
+
 pub front-length : (n : ℕ) (f : ℕ → ℕ) (xs : List ℕ) → n ≤ length xs → length (front n f xs) ≡ length xs
 unfolding front
 front-length n f xs l =
@@ -72,6 +81,23 @@ pub front-at : (n : ℕ) (f : ℕ → ℕ) (xs : List ℕ) (k : ℕ) → k < n �
 unfolding front
 front-at n f xs k l =
     List·getD-append (build n f) (drop n xs) 0 k (omega (arith, length-build n f)) ∙ getD-build n f k 0 l
+
+-- the place behind the front stands as it did
+pub front-next : (n : ℕ) (f : ℕ → ℕ) (xs : List ℕ) → n < length xs → getD (front n f xs) n 0 ≡ getD xs n 0
+unfolding front
+front-next n f xs l =
+    ap (λ (zs : List ℕ). getD (build n f ++ zs) n 0) (drop-cons xs n 0 l)
+    ∙ getD-at (build n f) (getD xs n 0) (drop (suc n) xs) 0 n (length-build n f)
+
+-- the same numbers make the same front
+pub front-ext : (n : ℕ) (f g : ℕ → ℕ) (xs : List ℕ) → ((k : ℕ) → k < n → f k ≡ g k) → front n f xs ≡ front n g xs
+unfolding front
+front-ext n f g xs h = ap (λ (zs : List ℕ). zs ++ drop n xs) (build-ext n f g h)
+
+-- a front that is written over another
+pub front-again : (n : ℕ) (f g : ℕ → ℕ) (xs : List ℕ) → front n f (front n g xs) ≡ front n f xs
+unfolding front
+front-again n f g xs = ap (λ (zs : List ℕ). build n f ++ zs) (drop-at (build n g) (drop n xs) n (length-build n g))
 
 pub front-take : (n : ℕ) (f : ℕ → ℕ) (xs : List ℕ) → take n (front n f xs) ≡ build n f
 unfolding front

@@ -123,7 +123,7 @@ count-ext zero p q h = refl
 count-ext (suc n) p q h =
     ap₂ (λ (m : ℕ) (b : Bool). m + cond b 1 0) (count-ext n p q (lower n h)) (h n (le-refl _))
 
-one-le : (b : Bool) → cond b 1 0 ≤ 1
+pub one-le : (b : Bool) → cond b 1 0 ≤ 1
 one-le true = omega arith
 one-le false = omega arith
 

@@ -1,33 +1,39 @@
 -- The leaders that must be counted, and what a box has of the others with no counting. Where at most t boxes are
 -- faulty and no list holds a sound box, every sound box hears a sound leader's row in step 1, hears it again from
--- every sound box in steps 2 and 3, and so votes for it and grades it with that row.
+-- every sound box in steps 2 and 3, and so votes for it and grades it with that row. Its support is the sound boxes
+-- and the faulty ones that say the same, which were counted while they were heard. Where a sound leader's row is 0
+-- this does not hold: a faulty box may name a row for it, and that has support. So such a leader is counted.
 -- Assumes nothing.
-use mathlib.Core.Path.{_≡_, sym, ap, _∙_}
-use mathlib.Core.Bool.{true, false}
+use mathlib.Core.Path.{_≡_, refl, sym, ap, ap₂, _∙_}
+use mathlib.Core.Bool.{Bool, true, false, _&&_}
 use mathlib.Core.List.{List}
 use mathlib.Core.Logic.{⊎-elim}
 use Prim.Native.Nat.{ℕ, _*_, _+_, _≤_, _<_}
 use native.Mathlib.Omega.{arith}
+use lib.Dec.{eqb}
 use lib.ListN.{length, getD}
-use Rattle.counting.specs.Count.{sum}
+use borrow.Author.Tests.{eqb-false}
+use Rattle.counting.specs.Count.{sum, count}
 use Rattle.counting.specs.Sets.{member, setOf}
-use Rattle.counting.proofs.Bools.{either, never, cond-true, cond-false}
+use Rattle.counting.proofs.Bools.{either, never, or-false-left, or-false-right, cond-true, cond-false}
+use Rattle.counting.proofs.Count.{count-ext}
 use Rattle.counting.proofs.Sets.{member-setOf}
-use Rattle.tally.specs.Tally.{voteOf, confidenceOf, gradedRow}
+use Rattle.tally.specs.Tally.{voteOf, supportOf, gradedRow}
 use Rattle.gradecast.specs.declared.Settings.{Settings}
-use Rattle.gradecast.specs.declared.Hall.{Hall}
 use Rattle.gradecast.specs.declared.Seat.{Seat}
+use Rattle.gradecast.specs.Steps.{heard3}
 use Rattle.gradecast.specs.Cast.{ofSound, cells}
 use Rattle.gradecast.specs.Fair.{SoundBox, faultyBoxes}
-use Rattle.gradecast.specs.Inside.{RightSize, AllHeard, saidBy, columnOf, Calm, AskedFor, Seated}
-use Rattle.gradecast.specs.Inside.{PutTo, onLeader, plainConfidence, voteBy, rowBy, confidenceBy}
-use Rattle.gradecast.specs.Inside.{SaidSecond, SaidThird}
-use Rattle.gradecast.specs.Inside.{votesOfSound, rowsOfSound, confidencesOfSound}
+use Rattle.gradecast.specs.Inside.{RightSize, AllHeard, AllThird, saidBy, oddTo, columnOf, Trusted, AskedFor}
+use Rattle.gradecast.specs.Inside.{Seated, PutTo, onLeader, mustCount, voteBy, rowBy, supportBy}
+use Rattle.gradecast.specs.Inside.{echoesTo, echoesOf, SaidSecond, SaidThird}
+use Rattle.gradecast.specs.Inside.{votesOfSound, rowsOfSound, supportsOfSound}
 use Rattle.gradecast.proofs.Boxes.{sound-not-faulty, not-faulty-sound}
 use Rattle.gradecast.proofs.Cells.{cells-at, put-skipped, put-same}
-use Rattle.gradecast.proofs.Columns.{votes-heard, rows-heard, confidences-heard}
+use Rattle.gradecast.proofs.Columns.{votes-heard, rows-heard, supports-heard, third-heard}
+use Rattle.gradecast.proofs.Echoes.{echoes-at}
 use Rattle.gradecast.proofs.Plain.{not-odd-listed}
-use Rattle.gradecast.proofs.Properties.{heard1-is, sound-voted, sound-graded}
+use Rattle.gradecast.proofs.Properties.{heard1-is, sound-voted, sound-firm, sound-support}
 use Rattle.gradecast.proofs.Sound.{of-faulty, of-sound}
 
 -- the set 65535 has every box
@@ -43,37 +49,41 @@ all-asked s odd high = λ lists o k l out. never (in-all k (omega arith)) out
 pub faulty-asked : (s : Settings) (odd : ℕ) → RightSize s → faultyBoxes (s .n) (s .faulty) ≤ s .t →
     odd ≡ s .faulty → AskedFor s odd (s .faulty)
 faulty-asked s odd size few e =
-    λ lists o k l out. (
-      record {
-        tolerated = omega (arith, size .tolerated);
-        few = omega (arith, few);
-        none-listed =
-            λ i j si sj.
-            not-odd-listed (s .faulty) lists j
-            (sym (o j) ∙ ap (λ (set : ℕ). member set j) e ∙ sound-not-faulty (s .faulty) j (sj .is-sound))
-            i (omega (arith, si .below, size .high));
-      },
-      record { below = l; is-sound = not-faulty-sound (s .faulty) k out },
-    )
+    λ lists o k l out.
+    let only : (j : ℕ) → oddTo 13 (s .faulty) lists j ≡ member (s .faulty) j =
+    λ j. sym (o j) ∙ ap (λ (set : ℕ). member set j) e
+    in
+    record {
+      calm =
+          record {
+            tolerated = omega (arith, size .tolerated);
+            few = omega (arith, few);
+            none-listed =
+                λ i j si sj.
+                not-odd-listed (s .faulty) lists j (only j ∙ sound-not-faulty (s .faulty) j (sj .is-sound)) i
+                (omega (arith, si .below, size .high));
+          };
+      leader = record { below = l; is-sound = not-faulty-sound (s .faulty) k out };
+      none-else = only;
+    }
 
--- what a box makes of a leader that is asked, and of one that is not
-module _ (hall : Hall) (counted : ℕ → List ℕ → ℕ) (plain : ℕ) (heard : List ℕ) (k : ℕ) where
+-- what a box makes of a leader that is to be counted, and of one that is not
+module _ (to-count : Bool) (s : Settings) (counted : ℕ → List ℕ → ℕ) (plain : ℕ) (heard : List ℕ) (k : ℕ) where
   -- the count
   abbrev count-on : ℕ
-  count-on = counted (hall .settings .t) (columnOf (hall .settings .n) heard k)
+  count-on = counted (s .t) (columnOf (s .n) heard k)
 
-  pub on-asked : member (hall .asked) k ≡ true → onLeader hall counted plain heard k ≡ count-on
+  pub on-asked : to-count ≡ true → onLeader to-count s counted plain heard k ≡ count-on
   unfolding onLeader
   on-asked h = cond-true count-on plain h
 
-  pub on-other : member (hall .asked) k ≡ false → onLeader hall counted plain heard k ≡ plain
+  pub on-other : to-count ≡ false → onLeader to-count s counted plain heard k ≡ plain
   unfolding onLeader
   on-other h = cond-false count-on plain h
 
   -- v, where the count and the plain answer are both v
-  on-leader : {v : ℕ} → count-on ≡ v → (member (hall .asked) k ≡ false → plain ≡ v) →
-      onLeader hall counted plain heard k ≡ v
-  on-leader a b = ⊎-elim (λ h. on-asked h ∙ a) (λ h. on-other h ∙ b h) (either (member (hall .asked) k))
+  on-leader : {v : ℕ} → count-on ≡ v → (to-count ≡ false → plain ≡ v) → onLeader to-count s counted plain heard k ≡ v
+  on-leader a b = ⊎-elim (λ h. on-asked h ∙ a) (λ h. on-other h ∙ b h) (either to-count)
 
 -- what the box in this seat puts to its cells: nothing where it is faulty, and where it is sound what it makes
 module _ {seat : Seat} {lists table : List ℕ} (p : Seated seat lists table) where
@@ -112,15 +122,12 @@ module _
         ∙ of-sound (s .faulty) f i k is-sound
 
     -- the number f i k, where it is what the box counts, and what it has with no counting of a leader that is not
-    -- asked: that one is sound, and all is calm
-    made : (counted : ℕ → List ℕ → ℕ) (plain : ℕ) (f : ℕ → ℕ → ℕ) (k : ℕ) → k < n →
-        counted (s .t) (columnOf n heard k) ≡ f i k →
-        (Calm n (s .t) (s .faulty) lists → SoundBox n (s .faulty) k → plain ≡ f i k) →
-        onLeader (seat .hall) counted plain heard k ≡ ofSound (s .faulty) f i k
-    made counted plain f k l by-count with-none =
-        on-leader (seat .hall) counted plain heard k by-count
-        (λ out. let trust = p .prepared .enough k l out in with-none (trust .0) (trust .1))
-        ∙ sym (of-sound (s .faulty) f i k is-sound)
+    -- to be counted
+    made : (to-count : Bool) (counted : ℕ → List ℕ → ℕ) (plain : ℕ) (f : ℕ → ℕ → ℕ) (k : ℕ) →
+        counted (s .t) (columnOf n heard k) ≡ f i k → (to-count ≡ false → plain ≡ f i k) →
+        onLeader to-count s counted plain heard k ≡ ofSound (s .faulty) f i k
+    made to-count counted plain f k by-count with-none =
+        on-leader to-count s counted plain heard k by-count with-none ∙ sym (of-sound (s .faulty) f i k is-sound)
 
     module _
         (h : AllHeard (n * n) s (getD lists i 0) table said i heard)
@@ -129,30 +136,66 @@ module _
         -- its vote
         pub votes-made : voteBy seat said heard k ≡ votesOfSound s rows lists table i k
         votes-made =
-            made voteOf _ _ k l (votes-heard s _ _ _ _ _ (p .prepared .size .high) size rows h e k l)
-            (λ calm leader.
+            made _ voteOf _ _ k (votes-heard s _ _ _ _ _ (p .prepared .size .high) size rows h e k l)
+            (λ out.
+            let trust = p .prepared .enough k l out in
             own-cell _ e k l
-            ∙ heard1-is calm rows table i k this-box leader
-            ∙ sym (sound-voted calm rows table i k this-box leader))
+            ∙ heard1-is (trust .calm) rows table i k this-box (trust .leader)
+            ∙ sym (sound-voted (trust .calm) rows table i k this-box (trust .leader)))
 
     module _
-        (h : AllHeard (n * n + n * n * n) s (getD lists i 0) table said i heard)
+        (h : AllThird seat lists table said heard)
         (e : SaidThird s lists table said rows) (k : ℕ) (l : k < n)
       where
-        -- what it said about a sound leader is the leader's row
-        said-row : Calm n (s .t) (s .faulty) lists → SoundBox n (s .faulty) k → saidBy n said k i ≡ getD rows k 0
-        said-row calm leader = own-cell _ e k l ∙ sound-voted calm rows table i k this-box leader
+        -- what it said about k itself
+        abbrev own : ℕ
+        own = saidBy n said k i
+
+        -- where k need not be counted
+        trusted : mustCount (seat .hall) own k ≡ false → Trusted s lists k
+        trusted out = p .prepared .enough k l (or-false-right (eqb own 0) (member (seat .hall .asked) k) out)
+
+        -- what it said is the leader's row then, and not 0
+        said-row : (out : mustCount (seat .hall) own k ≡ false) → own ≡ getD rows k 0
+        said-row out =
+            let trust = trusted out in own-cell _ e k l ∙ sound-voted (trust .calm) rows table i k this-box (trust .leader)
+
+        not-zero : mustCount (seat .hall) own k ≡ false → getD rows k 0 ≡ 0 → ⊥
+        not-zero out z =
+            eqb-false own 0 (or-false-left (eqb own 0) (member (seat .hall .asked) k) out) (said-row out ∙ z)
 
         -- its grade: the row
         pub rows-made : rowBy seat said heard k ≡ rowsOfSound s rows lists table i k
         rows-made =
-            made gradedRow _ _ k l (rows-heard s _ _ _ _ _ (p .prepared .size .high) size rows h e k l)
-            (λ calm leader. said-row calm leader ∙ sym (sound-graded calm rows table i k this-box leader .1))
+            made _ gradedRow _ _ k (rows-heard s _ _ _ _ _ (p .prepared .size .high) size rows h e k l)
+            (λ out.
+            let trust = trusted out in
+            said-row out ∙ sym (sound-firm (trust .calm) rows table i k this-box (trust .leader) (not-zero out) .1))
 
-        -- and the confidence
-        pub confidences-made : confidenceBy seat said heard k ≡ confidencesOfSound s rows lists table i k
-        confidences-made =
-            made confidenceOf _ _ k l (confidences-heard s _ _ _ _ _ (p .prepared .size .high) size rows h e k l)
-            (λ calm leader.
-            ap plainConfidence (said-row calm leader)
-            ∙ sym (sound-graded calm rows table i k this-box leader .0))
+        -- how often a sender that is faulty or listed says the leader's row, where only the faulty are so
+        echoes-are : (out : mustCount (seat .hall) own k ≡ false) →
+            echoesTo n seat (getD lists i 0) table said k ≡
+            count n
+            (λ j. member (s .faulty) j && eqb (heard3 n (s .t) (s .faulty) rows lists table i j k) (getD rows k 0))
+        unfolding echoesTo
+        echoes-are out =
+            count-ext n _ _
+            (λ j lj.
+            rw (
+              p .prepared .odd-set j,
+              trusted out .none-else j,
+              third-heard s lists table said heard i (p .prepared .size .high) size rows e k j l lj,
+              said-row out,
+            )
+            refl)
+
+        -- and the support
+        pub supports-made : {echoes : List ℕ} → echoes ≡ echoesOf seat (getD lists i 0) table said →
+            supportBy seat said heard k echoes ≡ supportsOfSound s rows lists table i k
+        supports-made counted =
+            made _ (λ t. supportOf) _ _ k (supports-heard s _ _ _ _ _ (p .prepared .size .high) size rows h e k l)
+            (λ out.
+            let trust = trusted out in
+            ap₂ _+_ (p .prepared .sound-boxes)
+            (echoes-at seat (getD lists i 0) table said (p .prepared .size .high) n counted k l ∙ echoes-are out)
+            ∙ sym (sound-support (trust .calm) rows table i k this-box (trust .leader) (not-zero out)))

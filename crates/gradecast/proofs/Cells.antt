@@ -11,8 +11,8 @@ use lib.Arith.{digits-div, digits-mod}
 use lib.ListN.{length, getD, take, drop, set, replicate, length-set, length-drop, getD-replicate}
 use lib.Seq.{getD-take, getD-drop, length-take-le}
 use Rattle.sizes.proofs.Laws.{square-le}
-use Rattle.counting.specs.Count.{build}
-use Rattle.counting.proofs.Build.{built, front-none, front-turn, front-stays, front-length, front-at}
+use Rattle.counting.specs.Count.{build, front}
+use Rattle.counting.proofs.Build.{built, front-none, front-turn, front-stays, front-length, front-at, front-ext}
 use Rattle.gradecast.specs.Cast.{cells, cellsTo}
 use Rattle.gradecast.specs.Inside.{PutTo}
 use Rattle.gradecast.proofs.Places.{two-digits}
@@ -76,6 +76,21 @@ module _ (n : ℕ) (f : ℕ → ℕ → ℕ) where
       (getD-replicate 169 (i * n + m) 0 0 (omega (arith, part-fits high hi))
       ∙ sym (ap₂ f (digits-div i l) (digits-mod i l) ∙ h m l))
       ∙ ap (λ (q : ℕ). cellsTo q n f) (omega arith)
+
+-- the same numbers give the same cells
+pub cells-ext : (n : ℕ) (f g : ℕ → ℕ → ℕ) → ((i k : ℕ) → f i k ≡ g i k) → cells n f ≡ cells n g
+cells-ext n f g h = ap (cells n) (λ a i k. h i k a)
+
+-- cells made one by one from those that stand in xs
+pub cells-mapped : (n : ℕ) (f : ℕ → ℕ → ℕ) (g : ℕ → ℕ) (xs : List ℕ) → xs ≡ cells n f →
+    front (n * n) (λ p. g (getD xs p 0)) (replicate 169 0) ≡ cells n (λ i k. g (f i k))
+unfolding cells cellsTo
+cells-mapped n f g xs e =
+    front-ext (n * n) _ _ (replicate 169 0)
+    (λ p l.
+    ap g
+    (ap (λ (ys : List ℕ). getD ys p 0) e
+    ∙ front-at (n * n) (λ p. f (p / n) (p % n)) (replicate 169 0) p l))
 
 -- a loop that puts the numbers of box i one by one, as g gives them: after k of n turns the first k are put, behind
 -- the cells that stood there first

@@ -11,12 +11,12 @@ use lib.ListN.{length, getD, take, drop, set, length-set, length-drop}
 use lib.Seq.{getD-set-same, getD-set-other, length-take-le}
 use Rattle.counting.specs.Count.{build}
 use Rattle.counting.proofs.Count.{at-or-below}
-use Rattle.tally.specs.Tally.{voteOf, confidenceOf, gradedRow}
+use Rattle.tally.specs.Tally.{voteOf, supportOf, gradedRow}
 use Rattle.tally.specs.Reply.{voteReply, gradeReply}
 use Rattle.sizes.specs.Sizes.{Sized}
-use Rattle.tally.proofs.Taken.{vote-row, grade-row, grade-confidence}
+use Rattle.tally.proofs.Taken.{vote-row, grade-row, grade-support}
 use Rattle.gradecast.specs.Steps.{placeFrom, place2, place3, sends, hears, heard2, column2, voted}
-use Rattle.gradecast.specs.Steps.{heard3, column3, gradeRow, confidence}
+use Rattle.gradecast.specs.Steps.{heard3, column3, gradeRow, supportFor}
 use Rattle.gradecast.specs.Cast.{ofSound, cells}
 use Rattle.gradecast.specs.declared.Settings.{Settings}
 use Rattle.gradecast.specs.Inside.{RightSize, heardFrom, SendersTo, AllHeard, FromSender, columnOf}
@@ -128,34 +128,40 @@ module _
     pub part-row : gradeReply part t .row ≡ gradedRow t (columnOf n heard k)
     part-row = ap (λ (xs : List ℕ). gradeReply xs t .row) part-column ∙ grade-row (columnOf n heard k) t fits
 
-    pub part-confidence : gradeReply part t .confidence ≡ confidenceOf t (columnOf n heard k)
-    part-confidence =
-        ap (λ (xs : List ℕ). gradeReply xs t .confidence) part-column ∙ grade-confidence (columnOf n heard k) t fits
+    pub part-support : gradeReply part t .support ≡ supportOf (columnOf n heard k)
+    part-support =
+        ap (λ (xs : List ℕ). gradeReply xs t .support) part-column ∙ grade-support (columnOf n heard k) t fits
 
 -- what a box makes of the columns that it heard
 module _
     (s : Settings) (lists table said heard : List ℕ) (i : ℕ)
     (high : s .n ≤ 13) (size : length heard ≡ 169) (rows : List ℕ)
   where
-    -- for any step: said holds what the sound boxes send, and so a leader's column is what they send about it
-    column-is : (base : ℕ) (f : ℕ → ℕ → ℕ) → AllHeard base s (getD lists i 0) table said i heard →
-        said ≡ cells (s .n) (ofSound (s .faulty) f) → (k : ℕ) → k < s .n →
-        columnOf (s .n) heard k ≡
-        build (s .n) (λ j. hears (getD lists i 0) j (sends (s .faulty) table j (placeFrom base (s .n) j i k) (f j k)))
-    unfolding columnOf heardFrom
-    column-is base f h e k leader =
-        part-built (s .n) k _ heard high leader size
-        (λ j l.
-        h k j leader l
-        ∙ ap (λ (m : ℕ). hears (getD lists i 0) j (sends (s .faulty) table j (placeFrom base (s .n) j i k) m))
-        (ap (λ (xs : List ℕ). getD xs (j * s .n + k) 0) e ∙ cells-at (s .n) (ofSound (s .faulty) f) j k l leader)
-        ∙ ap (hears (getD lists i 0) j) (sends-sound (s .faulty) table f j k (placeFrom base (s .n) j i k)))
+    -- for any step: said holds what the sound boxes send, and so a box hears what they send about a leader
+    module _ (base : ℕ) (f : ℕ → ℕ → ℕ) (e : said ≡ cells (s .n) (ofSound (s .faulty) f)) (k : ℕ) (leader : k < s .n)
+      where
+        abbrev heard-of : ℕ → ℕ
+        heard-of j = hears (getD lists i 0) j (sends (s .faulty) table j (placeFrom base (s .n) j i k) (f j k))
+
+        heard-is : (j : ℕ) → j < s .n → heardFrom base s (getD lists i 0) table said i k j ≡ heard-of j
+        unfolding heardFrom
+        heard-is j l =
+            ap (λ (m : ℕ). hears (getD lists i 0) j (sends (s .faulty) table j (placeFrom base (s .n) j i k) m))
+            (ap (λ (xs : List ℕ). getD xs (j * s .n + k) 0) e ∙ cells-at (s .n) (ofSound (s .faulty) f) j k l leader)
+            ∙ ap (hears (getD lists i 0) j) (sends-sound (s .faulty) table f j k (placeFrom base (s .n) j i k))
+
+        -- and that is the leader's column
+        column-is : AllHeard base s (getD lists i 0) table said i heard →
+            columnOf (s .n) heard k ≡ build (s .n) heard-of
+        unfolding columnOf
+        column-is h =
+            part-built (s .n) k heard-of heard high leader size (λ j l. h k j leader l ∙ heard-is j l)
 
     pub votes-heard : AllHeard (s .n * s .n) s (getD lists i 0) table said i heard →
         SaidSecond s lists table said rows → (k : ℕ) → k < s .n →
         voteOf (s .t) (columnOf (s .n) heard k) ≡ voted (s .n) (s .t) (s .faulty) rows lists table i k
     unfolding voted column2 heard2 place2
-    votes-heard h e k l = ap (voteOf (s .t)) (column-is _ _ h e k l)
+    votes-heard h e k l = ap (voteOf (s .t)) (column-is _ _ e k l h)
 
     module _
         (h : AllHeard (s .n * s .n + s .n * s .n * s .n) s (getD lists i 0) table said i heard)
@@ -164,9 +170,16 @@ module _
         pub rows-heard : gradedRow (s .t) (columnOf (s .n) heard k) ≡
             gradeRow (s .n) (s .t) (s .faulty) rows lists table i k
         unfolding gradeRow column3 heard3 place3
-        rows-heard = ap (gradedRow (s .t)) (column-is _ _ h e k l)
+        rows-heard = ap (gradedRow (s .t)) (column-is _ _ e k l h)
 
-        pub confidences-heard : confidenceOf (s .t) (columnOf (s .n) heard k) ≡
-            confidence (s .n) (s .t) (s .faulty) rows lists table i k
-        unfolding confidence column3 heard3 place3
-        confidences-heard = ap (confidenceOf (s .t)) (column-is _ _ h e k l)
+        pub supports-heard : supportOf (columnOf (s .n) heard k) ≡
+            supportFor (s .n) (s .t) (s .faulty) rows lists table i k
+        unfolding supportFor column3 heard3 place3
+        supports-heard = ap supportOf (column-is _ _ e k l h)
+
+    -- what the box hears from one sender about one leader in step 3
+    pub third-heard : SaidThird s lists table said rows → (k j : ℕ) → k < s .n → j < s .n →
+        heardFrom (s .n * s .n + s .n * s .n * s .n) s (getD lists i 0) table said i k j ≡
+        heard3 (s .n) (s .t) (s .faulty) rows lists table i j k
+    unfolding heard3 place3
+    third-heard e k j lk lj = heard-is _ _ e k lk j lj

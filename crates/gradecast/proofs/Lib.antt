@@ -14,3 +14,4 @@ pub mod Replies
 pub mod Sent
 pub mod Sound
 pub mod Wrong
+pub mod Echoes

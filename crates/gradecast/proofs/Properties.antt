@@ -3,17 +3,18 @@
 -- more than half and more than 2t; what no sound box says stands at most t times, too few for a vote or a grade; two
 -- votes of n − t places at two sound boxes are n − 2t and n − t places in one column, more than there are; and a
 -- support of 2t + 1 at one sound box is t + 1 at another. Assumes nothing.
-use mathlib.Core.Path.{_≡_, refl, sym, _∙_}
-use mathlib.Core.Bool.{true, cond}
+use mathlib.Core.Path.{_≡_, refl, sym, ap, _∙_}
+use mathlib.Core.Bool.{true, _&&_}
 use mathlib.Core.List.{List}
-use Prim.Native.Nat.{ℕ, _≤_}
+use Prim.Native.Nat.{ℕ, _+_, _-_, _≤_}
 use native.Mathlib.Decide.{ℕ-discrete}
 use native.Mathlib.Omega.{arith}
 use lib.Dec.{eqb}
 use lib.ListN.{getD}
 use borrow.Author.Tests.{eqb-true, eq-eqb, ne-eqb}
-use Rattle.counting.specs.Count.{build}
+use Rattle.counting.specs.Count.{build, count}
 use Rattle.counting.specs.Sets.{member}
+use Rattle.counting.specs.Most.{places}
 use Rattle.counting.proofs.Bools.{cond-true, cond-false}
 use Rattle.counting.proofs.Build.{length-build}
 use Rattle.counting.proofs.Count.{Between, count-more}
@@ -22,13 +23,13 @@ use Rattle.tally.specs.Tally.{voteOf, confidenceOf, gradedRow, supportOf}
 use Rattle.tally.proofs.Laws.{vote-carried, vote-none, vote-is, confidence-2, confidence-0, places-support}
 use Rattle.tally.proofs.Laws.{graded-counts, graded-firm}
 use Rattle.gradecast.specs.Steps.{place1, place2, place3, sends, hears, heard1, heard2, column2, voted}
-use Rattle.gradecast.specs.Steps.{heard3, column3, confidence, gradeRow}
-use Rattle.gradecast.specs.Fair.{SoundBox, Tolerated, FewFaulty, Fair, Gradecast}
-use Rattle.gradecast.specs.Inside.{Calm, plainConfidence}
+use Rattle.gradecast.specs.Steps.{heard3, column3, confidence, gradeRow, supportFor}
+use Rattle.gradecast.specs.Fair.{SoundBox, faultyBoxes, Tolerated, FewFaulty, Fair, Gradecast}
+use Rattle.gradecast.specs.Inside.{Calm}
 use Rattle.gradecast.proofs.Boxes.{sound-not-faulty, not-faulty-sound}
 use Rattle.gradecast.proofs.Grades.{positive, at-most-2, row-none, row-not-zero}
 use Rattle.gradecast.proofs.Listed.{listed-heard1}
-use Rattle.gradecast.proofs.Near.{all-places, no-places, near}
+use Rattle.gradecast.proofs.Near.{all-places, no-places, near, sound-places}
 
 -- a sound box whose row in the column is v
 record Witness (n faulty : ℕ) (f : ℕ → ℕ) (v : ℕ) : Type 0 where
@@ -181,24 +182,29 @@ module _ {n t faulty : ℕ} {lists : List ℕ} (calm : Calm n t faulty lists) (r
       go (yes e) = vote-silent (calm .tolerated) (calm .few) (λ j. Xof i j k) (λ j sj. all-say j sj ∙ e) ∙ sym e
       go (no z) = vote-all (calm .tolerated) (calm .few) (λ j. Xof i j k) (getD rows k 0) z all-say
 
-  -- and every sound box grades it with that row: with confidence 2, or with 0 where the row is 0
-  pub sound-graded : (i k : ℕ) → SoundBox n faulty i → SoundBox n faulty k →
-      (sure i k ≡ plainConfidence (getD rows k 0)) × (graded i k ≡ getD rows k 0)
-  unfolding confidence gradeRow column3 plainConfidence
-  sound-graded i k si sk = go (ℕ-discrete (getD rows k 0) 0)
-    where
-      all-say : (j : ℕ) → SoundBox n faulty j → Zof i j k ≡ getD rows k 0
-      all-say j sj = heard3-is i j k si sj ∙ sound-voted j k sj sk
+  -- so every sound box says it in step 3
+  all-say : (i k : ℕ) → SoundBox n faulty i → SoundBox n faulty k → (j : ℕ) → SoundBox n faulty j →
+      Zof i j k ≡ getD rows k 0
+  all-say i k si sk j sj = heard3-is i j k si sj ∙ sound-voted j k sj sk
 
-      go : Dec (getD rows k 0 ≡ 0) → (sure i k ≡ cond (eqb (getD rows k 0) 0) 0 2) × (graded i k ≡ getD rows k 0)
-      go (yes e) =
-          let none = grade-silent (calm .tolerated) (calm .few) (λ j. Zof i j k) (λ j sj. all-say j sj ∙ e) in (
-            none ∙ sym (cond-true 0 2 (eq-eqb (getD rows k 0) 0 e)),
-            row-none n t faulty rows lists table i k none ∙ sym e,
-          )
-      go (no z) =
-          let two = grade-all (calm .tolerated) (calm .few) (λ j. Zof i j k) (getD rows k 0) z all-say in
-          (two .0 ∙ sym (cond-false 0 2 (ne-eqb (getD rows k 0) 0 z)), two .1)
+  -- and where it is a row, every sound box grades the leader with confidence 2 and that row
+  pub sound-firm : (i k : ℕ) → SoundBox n faulty i → SoundBox n faulty k → (getD rows k 0 ≡ 0 → ⊥) →
+      (sure i k ≡ 2) × (graded i k ≡ getD rows k 0)
+  unfolding confidence gradeRow column3
+  sound-firm i k si sk z =
+      grade-all (calm .tolerated) (calm .few) (λ j. Zof i j k) (getD rows k 0) z (all-say i k si sk)
+
+  -- its support is the sound boxes, and the faulty ones that say it too
+  pub sound-support : (i k : ℕ) → SoundBox n faulty i → SoundBox n faulty k → (getD rows k 0 ≡ 0 → ⊥) →
+      supportFor n t faulty rows lists table i k ≡
+      n - faultyBoxes n faulty + count n (λ j. member faulty j && eqb (Zof i j k) (getD rows k 0))
+  unfolding supportFor confidence gradeRow column3
+  sound-support i k si sk z =
+      let firm = sound-firm i k si sk z in
+      let column : List ℕ = build n (λ j. Zof i j k) in
+      sym (graded-counts t column (λ e. absurd (omega (arith, firm .0, e))) .1)
+      ∙ ap (places column) (firm .1)
+      ∙ sound-places n faulty (λ j. Zof i j k) (getD rows k 0) (all-say i k si sk)
 
   -- two sound boxes see the same at the sound boxes, in step 3 and in step 4
   same-heard2 : (i j k : ℕ) → SoundBox n faulty i → SoundBox n faulty j → (l : ℕ) → SoundBox n faulty l →
@@ -254,14 +260,9 @@ module _ {n t faulty : ℕ} {lists : List ℕ} (calm : Calm n t faulty lists) (r
 -- the promises
 pub gradecast : {n t faulty : ℕ} {rows lists : List ℕ} → Fair n t faulty rows lists → (table : List ℕ) →
     Gradecast n t faulty rows lists table
-unfolding plainConfidence
 gradecast {n} {t} {faulty} {rows} {lists} fair table =
     record {
-      sound-leader =
-          λ i k si sk.
-          let g = sound-graded calm rows table i k si sk in
-          let held : getD rows k 0 ≡ 0 → ⊥ = λ e. absurd (omega (arith, e, fair .none-zero k sk)) in
-          (g .0 ∙ cond-false 0 2 (ne-eqb (getD rows k 0) 0 held), g .1);
+      sound-leader = λ i k si sk. sound-firm calm rows table i k si sk (fair .none-zero k sk);
       one-vote = votes-once calm rows table;
       one-row = counts-once calm rows table;
       firm-counts =

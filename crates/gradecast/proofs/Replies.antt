@@ -2,9 +2,10 @@
 -- ready for them, and one that is ready is not refused.
 -- Assumes nothing.
 use mathlib.Core.Path.{_≡_, refl, sym, _∙_}
-use mathlib.Core.Bool.{not}
+use mathlib.Core.Bool.{Bool, true, false, cond, not}
 use mathlib.Core.List.{List, [], _∷_}
 use Prim.Native.Nat.{ℕ, _*_, _<_}
+use native.Mathlib.Omega.{arith}
 use lib.Dec.{eqb}
 use lib.ListN.{length, replicate}
 use borrow.Author.Tests.{eqb-true, eq-eqb, ne-eqb}
@@ -12,14 +13,17 @@ use Rattle.counting.specs.Refuse.{Refusal}
 use Rattle.counting.specs.Refuse.Refusal.{refuse}
 use Rattle.counting.proofs.Bools.{not-false, not-of-true, not-of-false}
 use Rattle.counting.proofs.Refuse.{accepted, refused, passed, none-left}
-use Rattle.sizes.specs.Sizes.{outside, tooMany, sizeRefusal, tableRows, byN}
+use Rattle.sizes.specs.Sizes.{outside, tooMany, sizeRefusal, tableRows, byN, sound}
 use Rattle.sizes.proofs.Laws.{inside, inside-low, inside-high, tolerated-lt, by-n-inside}
 use Rattle.sizes.proofs.Laws.{passes-sized, sized-passes, size-given, size-passed}
+use Rattle.tally.specs.Tally.{confidenceAt, confidenceOf}
+use Rattle.tally.proofs.Laws.{fits}
 use Rattle.gradecast.specs.declared.Cast.{Cast}
-use Rattle.gradecast.specs.Steps.{gradeRow, confidence, messages}
+use Rattle.gradecast.specs.Steps.{gradeRow, confidence, supportFor, messages}
 use Rattle.gradecast.specs.Cast.{ofSound, cells, castOf, castRefusal, noCast, castReply}
 use Rattle.gradecast.specs.declared.Settings.{Settings}
 use Rattle.gradecast.specs.Inside.{Ready, RightSize}
+use Rattle.gradecast.proofs.Cells.{cells-ext}
 
 module _ (n t : ℕ) (table : List ℕ) where
   -- the test behind 4 and 5
@@ -73,17 +77,44 @@ steps-sized s table e =
     record { low = ready .low; high = ready .high; tolerated = few (s .n) (s .t) table e }
 
 module _ (n t faulty : ℕ) (rows lists table : List ℕ) where
+  -- the confidences are those that the supports give; where a faulty box's support is 0 so is its confidence
+  abbrev supports : ℕ → ℕ → ℕ
+  supports = ofSound faulty (supportFor n t faulty rows lists table)
+
+  confidences-are : cells n (λ i k. confidenceAt t (supports i k)) ≡
+      cells n (ofSound faulty (confidence n t faulty rows lists table))
+  unfolding ofSound confidence confidenceOf supportFor
+  confidences-are = cells-ext n _ _ (λ i k. go (sound faulty i) (supportFor n t faulty rows lists table i k))
+    where
+      go : (is-sound : Bool) (support : ℕ) →
+          confidenceAt t (cond is-sound support 0) ≡ cond is-sound (confidenceAt t support) 0
+      go true support = refl
+      go false support = fits t 0 .none .1 (omega arith)
+
   -- a reply is what the steps find where each of its parts is
   pub cast-is : (r : Cast) → r .refusal ≡ 0 → r .sent ≡ messages n t faulty rows lists table →
-      (r .rows ≡ cells n (ofSound faulty (gradeRow n t faulty rows lists table))) ×
-      (r .confidences ≡ cells n (ofSound faulty (confidence n t faulty rows lists table))) →
-      r ≡ castOf n t faulty rows lists table
+      (r .rows ≡ cells n (ofSound faulty (gradeRow n t faulty rows lists table))) × (r .supports ≡ cells n supports) →
+      r .confidences ≡ cells n (λ i k. confidenceAt t (supports i k)) → r ≡ castOf n t faulty rows lists table
   unfolding castOf
-  cast-is r none sent grades =
-      λ i. record { refusal = none i; sent = sent i; rows = grades .0 i; confidences = grades .1 i }
+  cast-is r none sent grades sure =
+      λ i.
+      record {
+        refusal = none i;
+        sent = sent i;
+        rows = grades .0 i;
+        confidences = (sure ∙ confidences-are) i;
+        supports = grades .1 i;
+      }
 
   pub cast-refused : (r : ℕ) → r ≡ castRefusal n t table → (r ≡ 0 → ⊥) →
-      _≡_ {A = Cast} (record { refusal = r; sent = 0; rows = replicate 169 0; confidences = replicate 169 0 })
+      _≡_ {A = Cast}
+      (record {
+        refusal = r;
+        sent = 0;
+        rows = replicate 169 0;
+        confidences = replicate 169 0;
+        supports = replicate 169 0;
+      })
       (castReply n t faulty rows lists table)
   unfolding castReply noCast
   cast-refused r e h = rw (← e, ne-eqb r 0 h) refl

@@ -9,7 +9,7 @@ use Rattle.counting.specs.Refuse.{firstOf}
 use Rattle.counting.specs.Refuse.Refusal.{refuse}
 use Rattle.sizes.specs.Sizes.{outside, tooMany, sound, tableRows}
 use Rattle.gradecast.specs.declared.Cast.{Cast}
-use Rattle.gradecast.specs.Steps.{gradeRow, confidence, messages}
+use Rattle.gradecast.specs.Steps.{gradeRow, confidence, supportFor, messages}
 
 -- what a sound box i has for leader k; nothing in a faulty box's place
 unfoldable pub ofSound : ℕ → (ℕ → ℕ → ℕ) → ℕ → ℕ → ℕ
@@ -31,6 +31,7 @@ castOf n t faulty rows lists table =
       sent = messages n t faulty rows lists table;
       rows = cells n (ofSound faulty (gradeRow n t faulty rows lists table));
       confidences = cells n (ofSound faulty (confidence n t faulty rows lists table));
+      supports = cells n (ofSound faulty (supportFor n t faulty rows lists table));
     }
 
 -- the refusals of steps 1 to 4: 4, 5, 11
@@ -44,7 +45,14 @@ castRefusal n t table =
 
 -- refused steps give 0 for all but the refusal's number
 unfoldable pub noCast : ℕ → Cast
-noCast refusal = record { refusal = refusal; sent = 0; rows = replicate 169 0; confidences = replicate 169 0 }
+noCast refusal =
+    record {
+      refusal = refusal;
+      sent = 0;
+      rows = replicate 169 0;
+      confidences = replicate 169 0;
+      supports = replicate 169 0;
+    }
 
 -- the whole reply of steps 1 to 4
 unfoldable pub castReply : ℕ → ℕ → ℕ → List ℕ → List ℕ → List ℕ → Cast

@@ -1,17 +1,27 @@
 -- What the private functions say of their parts of the work. No promise of the crate names any of it.
-use Prim.Native.Nat.{ℕ, _+_, _*_, _≤_, _<_}
+use Prim.Native.Nat.{ℕ, _+_, _-_, _*_, _≤_, _<_}
 use mathlib.Core.Path.{_≡_}
 use mathlib.Core.Bool.{Bool, false, cond, not, _||_, _&&_}
 use mathlib.Core.List.{List}
 use lib.Dec.{eqb}
-use lib.ListN.{length, getD, take, drop}
-use Rattle.counting.specs.Count.{any, count}
+use lib.ListN.{length, getD, take, drop, replicate}
+use Rattle.counting.specs.Count.{any, count, front}
 use Rattle.counting.specs.Sets.{member}
 use Rattle.sizes.specs.Sizes.{tableRows, sound, Sized}
-use Rattle.tally.specs.Tally.{voteOf, confidenceOf, gradedRow}
-use Rattle.gradecast.specs.Steps.{placeFrom, sends, hears, sent1, heard1, voted, confidence, gradeRow, messages}
+use Rattle.tally.specs.Tally.{voteOf, supportOf, confidenceAt, gradedRow}
+use Rattle.gradecast.specs.Steps.{
+  placeFrom,
+  sends,
+  hears,
+  sent1,
+  heard1,
+  voted,
+  supportFor,
+  gradeRow,
+  messages,
+}
 use Rattle.gradecast.specs.Cast.{ofSound, cellsTo, cells}
-use Rattle.gradecast.specs.Fair.{SoundBox, NoSoundListed, Tolerated, FewFaulty}
+use Rattle.gradecast.specs.Fair.{SoundBox, faultyBoxes, NoSoundListed, Tolerated, FewFaulty}
 use Rattle.gradecast.specs.declared.Settings.{Settings}
 use Rattle.gradecast.specs.declared.Hall.{Hall}
 use Rattle.gradecast.specs.declared.Seat.{Seat}
@@ -78,11 +88,15 @@ pub record Calm (n t faulty : ℕ) (lists : List ℕ) : Type 0 where
   pub few : FewFaulty n t faulty
   pub none-listed : NoSoundListed n faulty lists
 
--- a leader that is not asked is sound, and all is calm: so it need not be counted
+-- leader k is sound, all is calm, and no list at all holds a sound box: so k need not be counted
+pub record Trusted (s : Settings) (lists : List ℕ) (k : ℕ) : Type 0 where
+  pub calm : Calm (s .n) (s .t) (s .faulty) lists
+  pub leader : SoundBox (s .n) (s .faulty) k
+  pub none-else : (j : ℕ) → oddTo 13 (s .faulty) lists j ≡ member (s .faulty) j
+
+-- a leader that is not asked is one of those
 abbrev pub EnoughAsked : Settings → List ℕ → ℕ → Type 0
-EnoughAsked s lists asked =
-    (k : ℕ) → k < s .n → member asked k ≡ false →
-    Calm (s .n) (s .t) (s .faulty) lists × SoundBox (s .n) (s .faulty) k
+EnoughAsked s lists asked = (k : ℕ) → k < s .n → member asked k ≡ false → Trusted s lists k
 
 -- enough is asked for any lists of which this is the set of odd boxes
 abbrev pub AskedFor : Settings → ℕ → ℕ → Type 0
@@ -92,6 +106,7 @@ AskedFor s odd asked = (lists : List ℕ) → OddSet 13 (s .faulty) lists odd �
 pub record Prepared (hall : Hall) (lists table : List ℕ) : Type 0 where
   pub ready : Ready (hall .settings .n) table
   pub size : RightSize (hall .settings)
+  pub sound-boxes : hall .sound ≡ hall .settings .n - faultyBoxes (hall .settings .n) (hall .settings .faulty)
   pub odd-set : OddSet 13 (hall .settings .faulty) lists (hall .odd)
   pub enough : EnoughAsked (hall .settings) lists (hall .asked)
 
@@ -109,16 +124,53 @@ PutTo n i m g out last =
 unfoldable pub columnOf : ℕ → List ℕ → ℕ → List ℕ
 columnOf n heard k = take n (drop (k * n) heard)
 
--- what a box makes of leader k: the count over k's column where k is asked, else what it has with no counting
-unfoldable pub onLeader : Hall → (ℕ → List ℕ → ℕ) → ℕ → List ℕ → ℕ → ℕ
-onLeader hall counted plain heard k =
-    cond (member (hall .asked) k) (counted (hall .settings .t) (columnOf (hall .settings .n) heard k)) plain
+-- what a box makes of leader k: the count over k's column where k is to be counted, else what it has with no counting
+unfoldable pub onLeader : Bool → Settings → (ℕ → List ℕ → ℕ) → ℕ → List ℕ → ℕ → ℕ
+onLeader to-count s counted plain heard k = cond to-count (counted (s .t) (columnOf (s .n) heard k)) plain
 
--- the confidence in a sound leader with this row, where all is calm
-unfoldable pub plainConfidence : ℕ → ℕ
-plainConfidence row = cond (eqb row 0) 0 2
+-- must a box that said this about leader k count it in step 4? A leader that nobody names may still be named by liars.
+abbrev pub mustCount : Hall → ℕ → ℕ → Bool
+mustCount hall own k = eqb own 0 || member (hall .asked) k
 
--- what the box in this seat makes of leader k from what it said and heard: its vote; the row and the confidence of its
+-- what the box in this seat, with this list, hears from sender j about leader k in step 3
+abbrev pub thirdFrom : Seat → ℕ → List ℕ → List ℕ → ℕ → ℕ → ℕ
+thirdFrom seat list table said k j =
+    let n = seat .hall .settings .n in
+    heardFrom (n * n + n * n * n) (seat .hall .settings) list table said (seat .i) k j
+
+-- all that it hears in step 3 is there
+abbrev pub AllThird : Seat → List ℕ → List ℕ → List ℕ → List ℕ → Type 0
+AllThird seat lists table said heard =
+    SendersTo (seat .hall .settings .n) (seat .hall .settings .n)
+    (thirdFrom seat (getD lists (seat .i) 0) table said) heard
+
+-- is that what the box said itself?
+abbrev pub echoed : Seat → ℕ → List ℕ → List ℕ → ℕ → ℕ → Bool
+echoed seat list table said k j =
+    eqb (thirdFrom seat list table said k j) (saidBy (seat .hall .settings .n) said k (seat .i))
+
+-- how many of the first m senders that are faulty or on some list say so about leader k
+unfoldable pub echoesTo : ℕ → Seat → ℕ → List ℕ → List ℕ → ℕ → ℕ
+echoesTo m seat list table said k = count m (λ j. member (seat .hall .odd) j && echoed seat list table said k j)
+
+-- the echoes so far, and one more for each leader about whom sender j says so
+abbrev pub moreEchoes : Seat → ℕ → List ℕ → List ℕ → ℕ → List ℕ → ℕ → ℕ
+moreEchoes seat list table said j echoes k = getD echoes k 0 + cond (echoed seat list table said k j) 1 0
+
+-- none of the first n numbers is above n
+abbrev pub AtMost : ℕ → List ℕ → Type 0
+AtMost n xs = (k : ℕ) → k < n → getD xs k 0 ≤ n
+
+-- a number for each leader in 13 places
+abbrev pub forLeaders : ℕ → (ℕ → ℕ) → List ℕ
+forLeaders n f = front n f (replicate 13 0)
+
+-- the same, of all senders
+abbrev pub echoesOf : Seat → ℕ → List ℕ → List ℕ → List ℕ
+echoesOf seat list table said =
+    forLeaders (seat .hall .settings .n) (echoesTo (seat .hall .settings .n) seat list table said)
+
+-- what the box in this seat makes of leader k from what it said and heard: its vote; the row and the support of its
 -- grade
 module _ (seat : Seat) (said heard : List ℕ) (k : ℕ) where
   -- what it said about k itself
@@ -126,16 +178,18 @@ module _ (seat : Seat) (said heard : List ℕ) (k : ℕ) where
   own = saidBy (seat .hall .settings .n) said k (seat .i)
 
   abbrev pub voteBy : ℕ
-  voteBy = onLeader (seat .hall) voteOf own heard k
+  voteBy = onLeader (member (seat .hall .asked) k) (seat .hall .settings) voteOf own heard k
 
   abbrev pub rowBy : ℕ
-  rowBy = onLeader (seat .hall) gradedRow own heard k
+  rowBy = onLeader (mustCount (seat .hall) own k) (seat .hall .settings) gradedRow own heard k
 
-  abbrev pub confidenceBy : ℕ
-  confidenceBy = onLeader (seat .hall) confidenceOf (plainConfidence own) heard k
+  abbrev pub supportBy : List ℕ → ℕ
+  supportBy echoes =
+      onLeader (mustCount (seat .hall) own k) (seat .hall .settings) (λ t. supportOf)
+      (seat .hall .sound + getD echoes k 0) heard k
 
 -- what the sound boxes make of the rows in each step, and 0 in a faulty box's place: V, Y, and the row and the
--- confidence of step 4
+-- support of step 4
 module _ (s : Settings) (rows lists table : List ℕ) where
   abbrev pub firstOfSound : ℕ → ℕ → ℕ
   firstOfSound = ofSound (s .faulty) (heard1 (s .n) (s .faulty) rows lists table)
@@ -146,8 +200,8 @@ module _ (s : Settings) (rows lists table : List ℕ) where
   abbrev pub rowsOfSound : ℕ → ℕ → ℕ
   rowsOfSound = ofSound (s .faulty) (gradeRow (s .n) (s .t) (s .faulty) rows lists table)
 
-  abbrev pub confidencesOfSound : ℕ → ℕ → ℕ
-  confidencesOfSound = ofSound (s .faulty) (confidence (s .n) (s .t) (s .faulty) rows lists table)
+  abbrev pub supportsOfSound : ℕ → ℕ → ℕ
+  supportsOfSound = ofSound (s .faulty) (supportFor (s .n) (s .t) (s .faulty) rows lists table)
 
 module _ (s : Settings) (lists table said : List ℕ) where
   -- said is what the sound boxes send in step 2, from these rows
@@ -172,16 +226,21 @@ module _ (s : Settings) (lists table said : List ℕ) where
   PutRows i out last =
       (rows : List ℕ) → SaidThird rows → PutTo (s .n) i (s .n) (rowsOfSound s rows lists table i) out last
 
-  abbrev pub PutConfidences : ℕ → List ℕ → List ℕ → Type 0
-  PutConfidences i out last =
-      (rows : List ℕ) → SaidThird rows → PutTo (s .n) i (s .n) (confidencesOfSound s rows lists table i) out last
+  abbrev pub PutSupports : ℕ → List ℕ → List ℕ → Type 0
+  PutSupports i out last =
+      (rows : List ℕ) → SaidThird rows → PutTo (s .n) i (s .n) (supportsOfSound s rows lists table i) out last
 
   -- all grades are there
   abbrev pub AllGrades : List ℕ → List ℕ → Type 0
-  AllGrades last-rows last-confidences =
+  AllGrades last-rows last-supports =
       (rows : List ℕ) → SaidThird rows →
       (last-rows ≡ cells (s .n) (rowsOfSound s rows lists table)) ×
-      (last-confidences ≡ cells (s .n) (confidencesOfSound s rows lists table))
+      (last-supports ≡ cells (s .n) (supportsOfSound s rows lists table))
+
+-- the confidences that these supports give, where they are n rows of n
+abbrev pub Confidences : Settings → List ℕ → List ℕ → Type 0
+Confidences s supports confidences =
+    (f : ℕ → ℕ → ℕ) → supports ≡ cells (s .n) f → confidences ≡ cells (s .n) (λ i k. confidenceAt (s .t) (f i k))
 
 -- how many numbers of a list are not 0
 abbrev pub filled : List ℕ → ℕ

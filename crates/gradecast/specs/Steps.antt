@@ -8,7 +8,7 @@ use lib.ListN.{getD}
 use Rattle.counting.specs.Count.{sum, count, build}
 use Rattle.counting.specs.Sets.{member}
 use Rattle.sizes.specs.Sizes.{sound}
-use Rattle.tally.specs.Tally.{voteOf, confidenceOf, gradedRow}
+use Rattle.tally.specs.Tally.{voteOf, supportOf, confidenceOf, gradedRow}
 
 -- the table: n² rows for step 1 (sender, then receiver), then n³ for step 2 (sender, receiver, leader), n³ for step 3
 unfoldable pub place1 : ℕ → ℕ → ℕ → ℕ
@@ -78,6 +78,10 @@ module _ (n t faulty : ℕ) (rows lists table : List ℕ) where
   -- Z[1][k] to Z[n][k]
   unfoldable pub column3 : ℕ → ℕ → List ℕ
   column3 i k = build n (λ j. heard3 i j k)
+
+  -- step 4: the support that box i finds for leader k
+  unfoldable pub supportFor : ℕ → ℕ → ℕ
+  supportFor i k = supportOf (column3 i k)
 
   -- step 4: the confidence of box i in leader k
   unfoldable pub confidence : ℕ → ℕ → ℕ

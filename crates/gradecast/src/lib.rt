@@ -1,13 +1,13 @@
 // Steps 1 to 4 of one iteration, for every box at once. Boxes and leaders count from 0.
 ghost use mathlib.Core.Path.{_≡_};
 ghost use mathlib.Core.Bool.{cond, not, _&&_};
-ghost use Prim.Native.Nat.{_+_, _*_, _<_, _≤_};
+ghost use Prim.Native.Nat.{_+_, _-_, _*_, _<_, _≤_};
 ghost use lib.Dec.{eqb};
 ghost use lib.ListN.{length, getD, replicate};
-ghost use Rattle.counting.specs.Count.{count};
+ghost use Rattle.counting.specs.Count.{count, front};
 ghost use Rattle.counting.specs.Sets.{member};
 ghost use Rattle.sizes.specs.Sizes.{sound};
-ghost use Rattle.tally.specs.Tally.{voteOf, confidenceOf, gradedRow};
+ghost use Rattle.tally.specs.Tally.{voteOf, supportOf, gradedRow};
 ghost use Rattle.gradecast.specs.Steps.{place1, placeFrom, sends, hears};
 ghost use Rattle.gradecast.specs.Cast.{castOf, castRefusal, castReply};
 ghost use Rattle.gradecast.specs.Fair.{faultyBoxes};
@@ -21,10 +21,16 @@ ghost use Rattle.gradecast.specs.Inside.{
   Among,
   heardFrom,
   onLeader,
+  mustCount,
+  thirdFrom,
+  echoed,
+  moreEchoes,
+  echoesOf,
+  AtMost,
+  AllThird,
   voteBy,
   rowBy,
-  confidenceBy,
-  plainConfidence,
+  supportBy,
   SendersTo,
   AllHeard,
   FromSender,
@@ -37,20 +43,22 @@ ghost use Rattle.gradecast.specs.Inside.{
   PutVotes,
   AllVotes,
   PutRows,
-  PutConfidences,
+  PutSupports,
   AllGrades,
+  Confidences,
   filled,
   sendsFirst,
   AllSent,
 };
 
-// What all boxes make of all leaders: the messages of steps 1 to 3, and the row and the confidence that box i gives
-// leader k at place i * n + k; 0 in a faulty box's place.
+// What all boxes make of all leaders: the messages of steps 1 to 3, and the row, the confidence and the support that
+// box i has for leader k at place i * n + k; 0 in a faulty box's place.
 pub struct Cast {
     pub refusal: u8,
     pub sent: u64,
     pub rows: [u64; 169],
     pub confidences: [u8; 169],
+    pub supports: [u8; 169],
 }
 
 // What a call sets for all boxes: how many there are, how many may be faulty, and which are.
@@ -60,10 +68,11 @@ pub struct Settings {
     pub faulty: u16,
 }
 
-// What is the same for all boxes of one call: the settings; the boxes that are faulty or on some list; and the leaders
-// that must be counted.
+// What is the same for all boxes of one call: the settings; how many boxes are sound; which are faulty or on some
+// list; and the leaders that must be counted.
 struct Hall {
     settings: Settings,
+    sound: u8,
     odd: u16,
     asked: u16,
 }
@@ -72,6 +81,12 @@ struct Hall {
 struct Seat {
     hall: Hall,
     i: usize,
+}
+
+// What a box finds for a leader in step 4. The confidence follows from the support.
+struct Found {
+    row: u64,
+    support: u8,
 }
 
 // What a box with this list hears from j: nothing where j is listed, the table's row where j is faulty, else j's own.
@@ -180,12 +195,12 @@ fn faulty_boxes(n: usize, faulty: u16) -> usize
 
 // The leaders that must be counted: the faulty ones, where at most t boxes are faulty and the lists hold no sound box;
 // else all. What a box heard from any other leader in step 1 is its vote in step 3 and the row of its grade in step 4.
-fn asked_leaders(settings: Settings, odd: u16) -> u16
-    requires { ⌜ RightSize settings ⌝ }
+fn asked_leaders(settings: Settings, liars: usize, odd: u16) -> u16
+    requires { ⌜ RightSize settings × (liars ≡ faultyBoxes (settings .n) (settings .faulty)) ⌝ }
     ensures { λ r. ⌜ AskedFor settings odd r ⌝ }
 {
     let most = settings.t as usize;
-    if faulty_boxes(settings.n, settings.faulty) > most {
+    if liars > most {
         return 65535;
     }
     if odd == settings.faulty {
@@ -220,9 +235,30 @@ fn hear_plain(n: usize, said: &[u64; 169], heard: &mut [u64])
     }
 }
 
-// What the box in this seat, with this list, hears from box j about every leader, where sound boxes send said and the
-// table's rows begin at base. Whether j is listed or faulty does not change from leader to leader, so the leaders are
-// gone through inside.
+// What the box in this seat, with this list, hears from box j about leader k, where sound boxes send said and the
+// table's rows begin at base.
+fn hear_about(
+    base: usize,
+    seat: Seat,
+    list: u16,
+    table: &[u64],
+    said: &[u64; 169],
+    j: usize,
+    k: usize,
+) -> u64
+    requires { ⌜ Ready (seat .hall .settings .n) (now table) × Among (seat .hall .settings .n) (seat .i) j ×
+        (k < seat .hall .settings .n) × RowsFit base (seat .hall .settings .n) ⌝ }
+    ensures { λ r. ⌜ r ≡ heardFrom base (seat .hall .settings) list
+        (now (table .entry)) (now (said .entry)) (seat .i) k j ⌝ }
+{
+    let settings = seat.hall.settings;
+    let n = settings.n;
+    let place = place_from(base, n, j, seat.i, k);
+    hear(settings, list, table, j, place, said[j * n + k])
+}
+
+// What it hears from box j about every leader. Whether j is listed or faulty does not change from leader to leader, so
+// the leaders are gone through inside.
 fn hear_from(
     base: usize,
     seat: Seat,
@@ -238,13 +274,10 @@ fn hear_from(
         (λ k. heardFrom base (seat .hall .settings) list (now (table .entry)) (now (said .entry)) (seat .i) k j)
         (now (heard .entry)) (now (heard .exit)) ⌝ }
 {
-    let settings = seat.hall.settings;
-    let n = settings.n;
-    let i = seat.i;
+    let n = seat.hall.settings.n;
     let mut k: usize = 0;
     while k < n {
-        let place = place_from(base, n, j, i, k);
-        heard[k * n + j] = hear(settings, list, table, j, place, said[j * n + k]);
+        heard[k * n + j] = hear_about(base, seat, list, table, said, j, k);
         k += 1;
     }
 }
@@ -282,7 +315,7 @@ fn hear_all(
 // The vote over leader k's column, where k must be counted; else what the box itself said about k.
 fn vote_on(hall: Hall, own: u64, heard: &[u64], k: usize) -> u64
     requires { ⌜ RightSize (hall .settings) × (k < hall .settings .n) × (length (now heard) ≡ 169) ⌝ }
-    ensures { λ r. ⌜ r ≡ onLeader hall voteOf own (now (heard .entry)) k ⌝ }
+    ensures { λ r. ⌜ r ≡ onLeader (member (hall .asked) k) (hall .settings) voteOf own (now (heard .entry)) k ⌝ }
 {
     if sizes::is_member(hall.asked, k) {
         let n = hall.settings.n;
@@ -359,57 +392,137 @@ fn step3(
     }
 }
 
-// The grade that every sound box gives a sound leader whose row is this: confidence 2, or nothing for no row.
-fn plain_grade(row: u64) -> tally::Graded
-    ensures { λ r. ⌜ (r .row ≡ row) × (r .confidence ≡ plainConfidence row) ⌝ }
+// 1 where the two rows are the same, else 0.
+fn one_if_echo(row: u64, own: u64) -> u8
+    ensures { λ r. ⌜ r ≡ cond (eqb row own) 1 0 ⌝ }
 {
-    let confidence = if row == 0 { 0 } else { 2 };
-    tally::Graded {
-        refusal: 0,
-        row,
-        confidence,
+    if row == own { 1 } else { 0 }
+}
+
+// What the box in this seat hears from box j about every leader in step 3, and one more for each leader about whom j
+// says what the box said itself.
+fn hear_third_from(
+    seat: Seat,
+    list: u16,
+    table: &[u64],
+    said: &[u64; 169],
+    j: usize,
+    heard: &mut [u64],
+    echoes: &mut [u8],
+)
+    requires { ⌜ Ready (seat .hall .settings .n) (now table) × Among (seat .hall .settings .n) (seat .i) j ×
+        (length (now heard) ≡ 169) × (length (now echoes) ≡ 13) × AtMost (seat .hall .settings .n) (now echoes) ⌝ }
+    ensures { λ r. ⌜ FromSender (seat .hall .settings .n) j (seat .hall .settings .n)
+        (λ k. thirdFrom seat list (now (table .entry)) (now (said .entry)) k j)
+        (now (heard .entry)) (now (heard .exit)) ⌝ }
+    ensures { λ r. ⌜ now (echoes .exit) ≡ front (seat .hall .settings .n)
+        (moreEchoes seat list (now (table .entry)) (now (said .entry)) j (now (echoes .entry)))
+        (now (echoes .entry)) ⌝ }
+{
+    let n = seat.hall.settings.n;
+    let base = n * n + n * n * n;
+    let i = seat.i;
+    let mut k: usize = 0;
+    while k < n {
+        let row = hear_about(base, seat, list, table, said, j, k);
+        heard[k * n + j] = row;
+        echoes[k] += one_if_echo(row, said[i * n + k]);
+        k += 1;
     }
 }
 
-// The grade over leader k's column, where k must be counted; else the one that every sound box gives k.
-fn grade_on(hall: Hall, own: u64, heard: &[u64], k: usize) -> tally::Graded
-    requires { ⌜ RightSize (hall .settings) × (k < hall .settings .n) × (length (now heard) ≡ 169) ⌝ }
-    ensures { λ r. ⌜ (r .row ≡ onLeader hall gradedRow own (now (heard .entry)) k) ×
-        (r .confidence ≡ onLeader hall confidenceOf (plainConfidence own) (now (heard .entry)) k) ⌝ }
+// What the box in this seat hears in step 3 from all boxes about all leaders, as hear_all has it; and how often each
+// leader's row is echoed by those that are gone through.
+fn hear_third(
+    seat: Seat,
+    lists: &[u16; 13],
+    table: &[u64],
+    said: &[u64; 169],
+    heard: &mut [u64],
+    echoes: &mut [u8],
+)
+    requires { ⌜ Seated seat (now lists) (now table) × (length (now heard) ≡ 169) ×
+        PlainHeard (seat .hall .settings) (now lists) (now said) (now heard) × (now echoes ≡ replicate 13 0) ⌝ }
+    ensures { λ r. ⌜ AllThird seat (now (lists .entry)) (now (table .entry)) (now (said .entry))
+        (now (heard .exit)) ⌝ }
+    ensures { λ r. ⌜ PlainHeard (seat .hall .settings) (now (lists .entry)) (now (said .entry))
+        (now (heard .exit)) ⌝ }
+    ensures { λ r. ⌜ now (echoes .exit) ≡ echoesOf seat (getD (now (lists .entry)) (seat .i) 0)
+        (now (table .entry)) (now (said .entry)) ⌝ }
 {
-    if sizes::is_member(hall.asked, k) {
+    let n = seat.hall.settings.n;
+    let i = seat.i;
+    let list = lists[i];
+    let mut j: usize = 0;
+    while j < n {
+        if sizes::is_member(seat.hall.odd, j) {
+            hear_third_from(seat, list, table, said, j, heard, echoes);
+        }
+        j += 1;
+    }
+}
+
+// Must a box that said this about leader k count it?
+fn must_count(hall: Hall, own: u64, k: usize) -> bool
+    ensures { λ r. ⌜ r ≡ mustCount hall own k ⌝ }
+{
+    if own == 0 {
+        return true;
+    }
+    sizes::is_member(hall.asked, k)
+}
+
+// Row and support over leader k's column, where k must be counted. Else all sound boxes say what the box said itself,
+// and besides those only the faulty ones that echo it.
+fn grade_on(hall: Hall, own: u64, echo: u8, heard: &[u64], k: usize) -> Found
+    requires { ⌜ RightSize (hall .settings) × (k < hall .settings .n) × (hall .sound ≤ 13) × (echo ≤ 13) ×
+        (length (now heard) ≡ 169) ⌝ }
+    ensures { λ r. ⌜ (r .row ≡ onLeader (mustCount hall own k) (hall .settings) gradedRow own
+        (now (heard .entry)) k) ×
+        (r .support ≡ onLeader (mustCount hall own k) (hall .settings) (λ t. supportOf) (hall .sound + echo)
+        (now (heard .entry)) k) ⌝ }
+{
+    if must_count(hall, own, k) {
         let n = hall.settings.n;
         let from = k * n;
         let end = from + n;
-        return tally::grade(&heard[from..end], hall.settings.t);
+        let graded = tally::grade(&heard[from..end], hall.settings.t);
+        return Found {
+            row: graded.row,
+            support: graded.support,
+        };
     }
-    plain_grade(own)
+    let support = hall.sound + echo;
+    Found { row: own, support }
 }
 
-// The grades of the box in this seat, which said this in step 3, from the columns that it heard.
+// Rows and supports of the box in this seat, which said this in step 3, from the columns that it heard and how often
+// each leader's row was echoed.
 fn put_grades(
     seat: Seat,
     said: &[u64; 169],
     heard: &[u64],
+    echoes: &[u8; 13],
     rows: &mut [u64],
-    confidences: &mut [u8],
+    supports: &mut [u8],
 )
-    requires { ⌜ RightSize (seat .hall .settings) × (seat .i < seat .hall .settings .n) ×
-        (length (now heard) ≡ 169) × (length (now rows) ≡ 169) × (length (now confidences) ≡ 169) ⌝ }
+    requires { ⌜ RightSize (seat .hall .settings) × (seat .i < seat .hall .settings .n) × (seat .hall .sound ≤ 13) ×
+        AtMost (seat .hall .settings .n) (now echoes) × (length (now heard) ≡ 169) × (length (now rows) ≡ 169) ×
+        (length (now supports) ≡ 169) ⌝ }
     ensures { λ r. ⌜ PutTo (seat .hall .settings .n) (seat .i) (seat .hall .settings .n)
         (rowBy seat (now (said .entry)) (now (heard .entry))) (now (rows .entry)) (now (rows .exit)) ⌝ }
     ensures { λ r. ⌜ PutTo (seat .hall .settings .n) (seat .i) (seat .hall .settings .n)
-        (confidenceBy seat (now (said .entry)) (now (heard .entry)))
-        (now (confidences .entry)) (now (confidences .exit)) ⌝ }
+        (λ k. supportBy seat (now (said .entry)) (now (heard .entry)) k (now (echoes .entry)))
+        (now (supports .entry)) (now (supports .exit)) ⌝ }
 {
     let n = seat.hall.settings.n;
     let i = seat.i;
     let mut k: usize = 0;
     while k < n {
         let place = i * n + k;
-        let graded = grade_on(seat.hall, said[place], heard, k);
-        rows[place] = graded.row;
-        confidences[place] = graded.confidence;
+        let found = grade_on(seat.hall, said[place], echoes[k], heard, k);
+        rows[place] = found.row;
+        supports[place] = found.support;
         k += 1;
     }
 }
@@ -422,24 +535,23 @@ fn step4_box(
     third: &[u64; 169],
     heard: &mut [u64],
     rows: &mut [u64],
-    confidences: &mut [u8],
+    supports: &mut [u8],
 )
     requires { ⌜ Seated seat (now lists) (now table) × (length (now heard) ≡ 169) × (length (now rows) ≡ 169) ×
-        (length (now confidences) ≡ 169) × PlainHeard (seat .hall .settings) (now lists) (now third) (now heard) ⌝ }
+        (length (now supports) ≡ 169) × PlainHeard (seat .hall .settings) (now lists) (now third) (now heard) ⌝ }
     ensures { λ r. ⌜ PutRows (seat .hall .settings) (now (lists .entry)) (now (table .entry)) (now (third .entry))
         (seat .i) (now (rows .entry)) (now (rows .exit)) ⌝ }
-    ensures { λ r. ⌜ PutConfidences (seat .hall .settings) (now (lists .entry)) (now (table .entry))
-        (now (third .entry)) (seat .i) (now (confidences .entry)) (now (confidences .exit)) ⌝ }
+    ensures { λ r. ⌜ PutSupports (seat .hall .settings) (now (lists .entry)) (now (table .entry))
+        (now (third .entry)) (seat .i) (now (supports .entry)) (now (supports .exit)) ⌝ }
     ensures { λ r. ⌜ PlainHeard (seat .hall .settings) (now (lists .entry)) (now (third .entry))
         (now (heard .exit)) ⌝ }
 {
-    let n = seat.hall.settings.n;
     if sizes::is_member(seat.hall.settings.faulty, seat.i) {
         return;
     }
-    let base = n * n + n * n * n;
-    hear_all(base, seat, lists, table, third, heard);
-    put_grades(seat, third, heard, rows, confidences);
+    let mut echoes = [0u8; 13];
+    hear_third(seat, lists, table, third, heard, &mut echoes);
+    put_grades(seat, third, heard, &echoes, rows, supports);
 }
 
 // Step 4: what every sound box makes of every leader, put to cells that are 0.
@@ -450,19 +562,19 @@ fn step4(
     third: &[u64; 169],
     heard: &mut [u64],
     rows: &mut [u64],
-    confidences: &mut [u8],
+    supports: &mut [u8],
 )
     requires { ⌜ Prepared hall (now lists) (now table) × (length (now heard) ≡ 169) × (now rows ≡ replicate 169 0) ×
-        (now confidences ≡ replicate 169 0) ⌝ }
+        (now supports ≡ replicate 169 0) ⌝ }
     ensures { λ r. ⌜ AllGrades (hall .settings) (now (lists .entry)) (now (table .entry)) (now (third .entry))
-        (now (rows .exit)) (now (confidences .exit)) ⌝ }
+        (now (rows .exit)) (now (supports .exit)) ⌝ }
 {
     let n = hall.settings.n;
     hear_plain(n, third, heard);
     let mut i: usize = 0;
     while i < n {
         let seat = Seat { hall, i };
-        step4_box(seat, lists, table, third, heard, rows, confidences);
+        step4_box(seat, lists, table, third, heard, rows, supports);
         i += 1;
     }
 }
@@ -526,16 +638,34 @@ fn messages_of(settings: Settings, rows: &[u64; 13], second: &[u64], third: &[u6
     ((n - 1) * boxes) as u64
 }
 
+// The confidences that the supports give.
+fn confidences_of(settings: Settings, supports: &[u8; 169]) -> [u8; 169]
+    requires { ⌜ settings .n ≤ 13 ⌝ }
+    ensures { λ r. ⌜ Confidences settings (now (supports .entry)) r ⌝ }
+{
+    let size = settings.n * settings.n;
+    let mut out = [0u8; 169];
+    let mut p: usize = 0;
+    while p < size {
+        out[p] = tally::confidence_at(supports[p], settings.t);
+        p += 1;
+    }
+    out
+}
+
 // Steps 1 to 4 for every box, where they are not refused.
 fn all_steps(settings: Settings, rows: &[u64; 13], lists: &[u16; 13], table: &[u64]) -> Cast
     requires { ⌜ Ready (settings .n) (now table) × RightSize settings ⌝ }
     ensures { λ r. ⌜ r ≡ castOf (settings .n) (settings .t) (settings .faulty)
         (now (rows .entry)) (now (lists .entry)) (now (table .entry)) ⌝ }
 {
+    let liars = faulty_boxes(settings.n, settings.faulty);
     let odd = odd_boxes(settings.faulty, lists);
-    let asked = asked_leaders(settings, odd);
+    let asked = asked_leaders(settings, liars, odd);
+    let sound = (settings.n - liars) as u8;
     let hall = Hall {
         settings,
+        sound,
         odd,
         asked,
     };
@@ -546,13 +676,23 @@ fn all_steps(settings: Settings, rows: &[u64; 13], lists: &[u16; 13], table: &[u
     step3(hall, lists, table, &second, &mut heard, &mut third);
     let sent = messages_of(settings, rows, &second, &third);
     let mut held = [0u64; 169];
-    let mut sure = [0u8; 169];
-    step4(hall, lists, table, &third, &mut heard, &mut held, &mut sure);
+    let mut supports = [0u8; 169];
+    step4(
+        hall,
+        lists,
+        table,
+        &third,
+        &mut heard,
+        &mut held,
+        &mut supports,
+    );
+    let confidences = confidences_of(settings, &supports);
     Cast {
         refusal: 0,
         sent,
         rows: held,
-        confidences: sure,
+        confidences,
+        supports,
     }
 }
 
@@ -583,6 +723,7 @@ pub fn steps(settings: Settings, rows: &[u64; 13], lists: &[u16; 13], table: &[u
             sent: 0,
             rows: [0; 169],
             confidences: [0; 169],
+            supports: [0; 169],
         };
     }
     all_steps(settings, rows, lists, table)

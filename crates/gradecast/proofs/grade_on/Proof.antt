@@ -1,19 +1,20 @@
--- `gradecast::grade_on` meets its contract: the test is whether leader k is asked, and the column of one that is lies
--- from k * n to k * n + n. Assumes nothing.
+-- `gradecast::grade_on` meets its contract: the test is whether leader k must be counted, and the column of one that
+-- must lies from k * n to k * n + n. Of any other the row is the box's own word and the support the sound boxes with the
+-- echoes, which together fit a byte. Assumes nothing.
 use mathlib.Core.Path.{_≡_, sym, ap, _∙_}
 use mathlib.Core.Bool.{true}
 use Prim.Native.Nat.{_+_, _*_, _≤_}
 use native.Mathlib.Omega.{arith}
 use lib.ListN.{length}
-use Rattle.counting.specs.Sets.{member}
 use Rattle.tally.specs.declared.Graded.{Graded}
+use Rattle.gradecast.specs.Inside.{mustCount}
 use Rattle.gradecast.proofs.Asked.{on-asked, on-other}
-use Rattle.gradecast.proofs.Columns.{column-fits, part-row, part-confidence}
+use Rattle.gradecast.proofs.Columns.{column-fits, part-row, part-support}
 use borrow.Author.Needs.{needs}
 use Rattle.gradecast.proofs.grade_on.Statement.{statement}
 use Rattle.gradecast.proofs.grade_on.Tie as tie
 
--- the entry, from where leader k is asked
+-- the entry, from where leader k is to be counted
 abbrev start : tie.Then1 → tie.Start
 start c = c .before .before .before
 
@@ -22,13 +23,13 @@ fits : (c : tie.Then1) →
     let a = start c .args in
     let n = a .hall .settings .n in
     a .k * n + n ≤ length (a .heard .now)
-fits c = let p = start c .pre in column-fits (start c .args .heard .now) (p .0) (p .1) (p .2)
+fits c = let p = start c .pre in column-fits (start c .args .heard .now) (p .0) (p .1) (p .4)
 
-is-asked : (c : tie.Then1) → let a = start c .args in member (a .hall .asked) (a .k) ≡ true
-is-asked c = sym (c .before .is-member .ensures) ∙ c .if1 .taken
+is-counted : (c : tie.Then1) → let a = start c .args in mustCount (a .hall) (a .own) (a .k) ≡ true
+is-counted c = sym (c .before .must-count .ensures) ∙ c .if1 .taken
 
-is-member-requires : tie.Need-is-member-requires
-is-member-requires c κs = search needs
+must-count-requires : tie.Need-must-count-requires
+must-count-requires c κs = search needs
 
 mul-from : tie.Need-mul-from
 mul-from c = omega (arith, fits c)
@@ -53,31 +54,30 @@ grade-requires c κs = search needs
 
 returns : tie.Need-returns
 returns c =
-    let asked = c .before .before in
-    let a = start asked .args in
-    let p = start asked .pre in (
+    let counted = c .before .before in
+    let a = start counted .args in
+    let p = start counted .pre in (
       ap (λ (r : Graded). r .row) (c .grade .ensures)
-          ∙ part-row (a .hall .settings) (p .0) (p .1) (a .heard .now) (p .2)
-          ∙ sym (on-asked _ _ _ _ _ (is-asked asked)),
-      ap (λ (r : Graded). r .confidence) (c .grade .ensures)
-          ∙ part-confidence (a .hall .settings) (p .0) (p .1) (a .heard .now) (p .2)
-          ∙ sym (on-asked _ _ _ _ _ (is-asked asked)),
+          ∙ part-row (a .hall .settings) (p .0) (p .1) (a .heard .now) (p .4)
+          ∙ sym (on-asked _ _ _ _ _ _ (is-counted counted)),
+      ap (λ (r : Graded). r .support) (c .grade .ensures)
+          ∙ part-support (a .hall .settings) (p .0) (p .1) (a .heard .now) (p .4)
+          ∙ sym (on-asked _ _ _ _ _ _ (is-counted counted)),
     )
 
-plain-grade-requires : tie.Need-plain-grade-requires
-plain-grade-requires c κs = search needs
+add-support : tie.Need-add-support
+add-support c = let p = c .before .before .before .before .pre in omega (arith, p .2, p .3)
 
 returns-2 : tie.Need-returns-2
 returns-2 c =
-    let g = c .plain-grade .ensures in
-    let not-asked = sym (c .before .before .is-member .ensures) ∙ c .before .if1 .left in
-    (g .0 ∙ sym (on-other _ _ _ _ _ not-asked), g .1 ∙ sym (on-other _ _ _ _ _ not-asked))
+    let not-counted = sym (c .before .before .must-count .ensures) ∙ c .before .if1 .left in
+    (sym (on-other _ _ _ _ _ _ not-counted), sym (on-other _ _ _ _ _ _ not-counted))
 
 pub grade-on-spec : {M : Type 1} → statement M
 grade-on-spec =
     tie.close
     (tie.spec
-    is-member-requires
+    must-count-requires
     mul-from
     add-end
     mul-grade
@@ -86,5 +86,5 @@ grade-on-spec =
     part-grade-end
     grade-requires
     returns
-    plain-grade-requires
+    add-support
     returns-2)

@@ -1,20 +1,20 @@
 -- `gradecast::put_grades` meets its contract: after k turns the grades of the leaders below k are put, their rows and
--- their confidences. What is left of n falls. Assumes nothing.
+-- their supports. What is left of n falls. Assumes nothing.
 use Prim.Native.Nat.{_+_, _*_, _-_, _<_}
 use native.Mathlib.Omega.{arith}
-use Rattle.gradecast.specs.Inside.{rowBy, confidenceBy}
+use Rattle.gradecast.specs.Inside.{rowBy, supportBy}
 use Rattle.gradecast.proofs.Cells.{place-fits, Putting, put-begins, put-turn, put-fits, put-ends}
 use borrow.Author.Needs.{needs}
 use Rattle.gradecast.proofs.put_grades.Statement.{statement}
 use Rattle.gradecast.proofs.put_grades.Tie as tie
 
 abbrev Inv-loop : tie.InvT-loop
-Inv-loop seat said heard rows₀ confidences₀ n i k₀ rows confidences k =
+Inv-loop seat said heard echoes rows₀ supports₀ n i k₀ rows supports k =
     Putting (seat .hall .settings .n) (seat .i) (rowBy seat said heard) rows₀ k rows ×
-    Putting (seat .hall .settings .n) (seat .i) (confidenceBy seat said heard) confidences₀ k confidences
+    Putting (seat .hall .settings .n) (seat .i) (λ m. supportBy seat said heard m echoes) supports₀ k supports
 
 abbrev μ-loop : tie.MeasureT-loop
-μ-loop seat said heard rows₀ confidences₀ n i k₀ rows confidences k = seat .hall .settings .n - k
+μ-loop seat said heard echoes rows₀ supports₀ n i k₀ rows supports k = seat .hall .settings .n - k
 
 -- the entry, from the loop
 abbrev entry : tie.At-loop Inv-loop μ-loop → tie.Start Inv-loop μ-loop
@@ -41,23 +41,33 @@ mul-grade-on c = omega (arith, within c)
 element-copy-out-grade-on : tie.Need-element-copy-out-grade-on Inv-loop μ-loop
 element-copy-out-grade-on c = within c
 
+element-copy-out-grade-on-2 : tie.Need-element-copy-out-grade-on-2 Inv-loop μ-loop
+element-copy-out-grade-on-2 c =
+    let turn = c .before in
+    omega (arith, entry (turn .before) .pre .0 .high, turn .loop-test .taken)
+
 grade-on-requires : tie.Need-grade-on-requires Inv-loop μ-loop
-grade-on-requires c κs = search needs
+grade-on-requires c κs =
+    let turn = c .before .before in
+    let p = entry (turn .before) .pre in
+    let k = turn .before .loop .k in
+    let below = turn .loop-test .taken in
+    (p .0, below, p .2, omega (arith, p .3 k below, p .0 .high), p .4)
 
 mul-rows : tie.Need-mul-rows Inv-loop μ-loop
-mul-rows c = omega (arith, within (c .before .before))
+mul-rows c = omega (arith, within (c .before .before .before))
 
 slice-write-rows : tie.Need-slice-write-rows Inv-loop μ-loop
 slice-write-rows c =
-    let turn = c .before .before in
+    let turn = c .before .before .before in
     let p = entry (turn .before) .pre in
-    put-fits (p .0 .high) (p .1) _ (p .3) (turn .before .loop .inv .0) (turn .loop-test .taken)
+    put-fits (p .0 .high) (p .1) _ (p .5) (turn .before .loop .inv .0) (turn .loop-test .taken)
 
-slice-write-confidences : tie.Need-slice-write-confidences Inv-loop μ-loop
-slice-write-confidences c =
-    let turn = c .before .before in
+slice-write-supports : tie.Need-slice-write-supports Inv-loop μ-loop
+slice-write-supports c =
+    let turn = c .before .before .before in
     let p = entry (turn .before) .pre in
-    put-fits (p .0 .high) (p .1) _ (p .4) (turn .before .loop .inv .1) (turn .loop-test .taken)
+    put-fits (p .0 .high) (p .1) _ (p .6) (turn .before .loop .inv .1) (turn .loop-test .taken)
 
 add-k : tie.Need-add-k Inv-loop μ-loop
 add-k c = search needs
@@ -67,7 +77,7 @@ loop-less c = search needs
 
 loop-again : tie.Need-loop-again Inv-loop μ-loop
 loop-again c =
-    let turn = c .before .before in
+    let turn = c .before .before .before in
     let p = entry (turn .before) .pre in
     let so-far = turn .before .loop .inv in
     let below = turn .loop-test .taken in
@@ -99,10 +109,11 @@ put-grades-spec =
     add-place
     mul-grade-on
     element-copy-out-grade-on
+    element-copy-out-grade-on-2
     grade-on-requires
     mul-rows
     slice-write-rows
-    slice-write-confidences
+    slice-write-supports
     add-k
     loop-less
     loop-again

@@ -1,27 +1,27 @@
 -- `gradecast::step4` meets its contract: after i turns the grades of the boxes below i are put, and what every box
 -- hears alike is there, as it was put down before the first. What is left of n falls. Assumes nothing.
-use mathlib.Core.Path.{_≡_, _∙_}
+use mathlib.Core.Path.{_≡_, sym, ap, _∙_}
 use Prim.Native.Nat.{_-_, _≤_}
 use native.Mathlib.Omega.{arith}
 use lib.ListN.{length}
-use Rattle.gradecast.specs.Inside.{PlainHeard, SaidThird, rowsOfSound, confidencesOfSound}
+use Rattle.gradecast.specs.Inside.{PlainHeard, SaidThird, rowsOfSound, supportsOfSound}
 use Rattle.gradecast.proofs.Cells.{BoxesTo, boxes-begin, boxes-turn, boxes-end}
 use borrow.Author.Needs.{needs}
 use Rattle.gradecast.proofs.step4.Statement.{statement}
 use Rattle.gradecast.proofs.step4.Tie as tie
 
 abbrev Inv-loop : tie.InvT-loop
-Inv-loop hall lists table third heard₀ rows₀ confidences₀ n i₀ heard rows confidences i =
+Inv-loop hall lists table third heard₀ rows₀ supports₀ n i₀ heard rows supports i =
     (i ≤ hall .settings .n) ×
     (length heard ≡ 169) ×
     PlainHeard (hall .settings) lists third heard ×
     BoxesTo (hall .settings .n) (SaidThird (hall .settings) lists table third)
     (λ held. rowsOfSound (hall .settings) held lists table) i rows ×
     BoxesTo (hall .settings .n) (SaidThird (hall .settings) lists table third)
-    (λ held. confidencesOfSound (hall .settings) held lists table) i confidences
+    (λ held. supportsOfSound (hall .settings) held lists table) i supports
 
 abbrev μ-loop : tie.MeasureT-loop
-μ-loop hall lists table third heard₀ rows₀ confidences₀ n i₀ heard rows confidences i = hall .settings .n - i
+μ-loop hall lists table third heard₀ rows₀ supports₀ n i₀ heard rows supports i = hall .settings .n - i
 
 -- where the senders are put down, from the loop's beginning, and the entry
 abbrev put-down : tie.After-slice-known4 Inv-loop μ-loop → tie.After-hear-plain Inv-loop μ-loop
@@ -80,10 +80,10 @@ same-length : tie.Need-same-length Inv-loop μ-loop
 same-length c = search needs
 
 same-length-2 : tie.Need-same-length-2 Inv-loop μ-loop
-same-length-2 c = search needs
+same-length-2 c = c .before .loop .inv .3 .0 ∙ sym (ap length (start (c .before .before) .pre .2))
 
 same-length-3 : tie.Need-same-length-3 Inv-loop μ-loop
-same-length-3 c = search needs
+same-length-3 c = c .before .loop .inv .4 .0 ∙ sym (ap length (start (c .before .before) .pre .3))
 
 returns : tie.Need-returns Inv-loop μ-loop
 returns c =

@@ -58,10 +58,10 @@ returns c =
     let p = start asked .pre in
     ap (λ (r : Voted). r .row) (c .vote .ensures)
     ∙ part-vote (a .hall .settings) (p .0) (p .1) (a .heard .now) (p .2)
-    ∙ sym (on-asked _ _ _ _ _ (is-asked asked))
+    ∙ sym (on-asked _ _ _ _ _ _ (is-asked asked))
 
 returns-2 : tie.Need-returns-2
-returns-2 c = sym (on-other _ _ _ _ _ (sym (c .before .is-member .ensures) ∙ c .if1 .left))
+returns-2 c = sym (on-other _ _ _ _ _ _ (sym (c .before .is-member .ensures) ∙ c .if1 .left))
 
 pub vote-on-spec : {M : Type 1} → statement M
 vote-on-spec =
