@@ -40,6 +40,7 @@ use Rattle.gradecast.specs.Steps.{
   column3,
   confidence,
   gradeRow,
+  supportFor,
   sentTo,
   messages,
 }
@@ -134,7 +135,7 @@ pub marked-hold : Hold marked
 unfolding sum count any build find member setOf places support before best most firstOf outside tooMany stray sound
     soundZero tableRows carried voteOf twoRows supportOf confidenceAt confidenceOf gradedRow counted chosenRow
     voteRefusal sizeRefusal unless voteReply gradeReply place1 placeFrom place2 place3 sends hears heard1 heard2
-    column2 voted heard3 column3 confidence gradeRow sentTo messages entry gradedRows confidences newRow newList
+    column2 voted heard3 column3 supportFor confidence gradeRow sentTo messages entry gradedRows confidences newRow newList
     nextRun startRow startRefusal startRun startReply badEntry badPlace tooManySent iterateRefusal iterateReply
     after largestT number hasMark versionOf nOf tByte faultyOf tOf headingBytes rowFrom headingRow tableRow
     headingTests headingRefusal headingOf nothingRead headingReply tableTests tableRefusal tens decimal field fields

@@ -94,8 +94,8 @@ record Computed : Type 0 where
   last1 : getD (caseS 2 .run .rows) 1 0 ≡ 10
   vote6 : voteReply votes6 1 ≡ record { refusal = 0; row = 6 }
   vote0 : voteReply votes0 1 ≡ record { refusal = 0; row = 0 }
-  grade6 : gradeReply votes6 1 ≡ record { refusal = 0; row = 6; confidence = 2 }
-  grade7 : gradeReply (7 ∷ []) 0 ≡ record { refusal = 0; row = 7; confidence = 2 }
+  grade6 : gradeReply votes6 1 ≡ record { refusal = 0; row = 6; confidence = 2; support = 3 }
+  grade7 : gradeReply (7 ∷ []) 0 ≡ record { refusal = 0; row = 7; confidence = 2; support = 1 }
   choice6 : choiceReply (6 ∷ []) (2 ∷ []) ≡ record { refusal = 0; row = 6; firm = 1 }
   choice7 : choiceReply (7 ∷ []) (2 ∷ []) ≡ record { refusal = 0; row = 7; firm = 1 }
 
@@ -189,9 +189,10 @@ module _ (number : ℕ) (some : number ≡ 0 → ⊥) where
   pub not-refusing-vote : (row : ℕ) → VoteCall votes6 1 (record { refusal = number; row = row }) → ⊥
   not-refusing-vote row c = some (ap (λ (r : Voted). r .refusal) (vote-call-is c ∙ computed .vote6))
 
-  pub not-refusing-grade : (row confidence : ℕ) →
-      GradeCall votes6 1 (record { refusal = number; row = row; confidence = confidence }) → ⊥
-  not-refusing-grade row confidence c = some (ap (λ (r : Graded). r .refusal) (grade-call-is c ∙ computed .grade6))
+  pub not-refusing-grade : (row confidence support : ℕ) →
+      GradeCall votes6 1 (record { refusal = number; row = row; confidence = confidence; support = support }) → ⊥
+  not-refusing-grade row confidence support c =
+      some (ap (λ (r : Graded). r .refusal) (grade-call-is c ∙ computed .grade6))
 
   pub not-refusing-choice : (row firm : ℕ) →
       ChooseCall (6 ∷ []) (2 ∷ []) (record { refusal = number; row = row; firm = firm }) → ⊥
@@ -206,9 +207,10 @@ module _ (v : ℕ) where
       let none = ap (λ (r : Voted). r .row) (vote-call-is d ∙ computed .vote0) in
       omega (arith, six, none)
 
-  pub not-fixed-grade : GradeCall votes6 1 (record { refusal = 0; row = v; confidence = 2 }) →
-      GradeCall (7 ∷ []) 0 (record { refusal = 0; row = v; confidence = 2 }) → ⊥
-  not-fixed-grade c d =
+  pub not-fixed-grade : (support support' : ℕ) →
+      GradeCall votes6 1 (record { refusal = 0; row = v; confidence = 2; support = support }) →
+      GradeCall (7 ∷ []) 0 (record { refusal = 0; row = v; confidence = 2; support = support' }) → ⊥
+  not-fixed-grade support support' c d =
       let six = ap (λ (r : Graded). r .row) (grade-call-is c ∙ computed .grade6) in
       let seven = ap (λ (r : Graded). r .row) (grade-call-is d ∙ computed .grade7) in
       omega (arith, six, seven)

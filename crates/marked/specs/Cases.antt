@@ -5,7 +5,7 @@ use mathlib.Core.Path.{_≡_}
 use mathlib.Core.List.{List, [], _∷_, _++_}
 use lib.ListN.{take, set, replicate}
 use Rattle.tally.specs.Reply.{voteReply, gradeReply}
-use Rattle.gradecast.specs.Steps.{place1, place2, place3, confidence, gradeRow}
+use Rattle.gradecast.specs.Steps.{place1, place2, place3, confidence, gradeRow, supportFor}
 use Rattle.gradecast.specs.Lies.{silent}
 use Rattle.run.specs.declared.Run.{Run}
 use Rattle.run.specs.declared.Next.{Next}
@@ -28,11 +28,12 @@ Hold (Case.never got number ∷ rest) = ((rows : List ℕ) → got rows ≡ numb
 abbrev pub shown : Next → List ℕ
 shown r = r .refusal ∷ r .run .sent ∷ take (r .run .n) (r .run .rows) ++ take (r .run .n) (r .run .lists)
 
--- what box i makes of leader k: row and confidence
+-- what box i makes of leader k: row, confidence and support
 abbrev pub graded : Run → List ℕ → ℕ → ℕ → List ℕ
 graded s table i k =
     gradeRow (s .n) (s .t) (s .faulty) (s .rows) (s .lists) table i k ∷
     confidence (s .n) (s .t) (s .faulty) (s .rows) (s .lists) table i k ∷
+    supportFor (s .n) (s .t) (s .faulty) (s .rows) (s .lists) table i k ∷
     []
 
 -- case S: box 4 sends, all for leader 4, in step 1 20 to boxes 1 and 2 and 99 to box 3, in step 2 20 to box 1 and 99
@@ -89,11 +90,12 @@ linesOfS =
 abbrev pub quiet : ℕ → ℕ → ℕ → List ℕ → ℕ → Next
 quiet n t faulty rows = after (startReply n t faulty rows) (λ m. silent n)
 
--- row and confidence of a grade over n rows of which so many hold 6 and the others nothing
+-- row, confidence and support of a grade over n rows of which so many hold 6 and the others nothing
 abbrev pub gradeBy : ℕ → ℕ → ℕ → List ℕ
 gradeBy t support others =
     gradeReply (replicate support 6 ++ replicate others 0) t .row ∷
     gradeReply (replicate support 6 ++ replicate others 0) t .confidence ∷
+    gradeReply (replicate support 6 ++ replicate others 0) t .support ∷
     []
 
 -- refusal and row of a vote
@@ -106,10 +108,10 @@ marked =
     -- case S: messages 75, then 63 more; all but box 2 hold 10 after iteration 1, all after iteration 2
     Case.gives (shown (caseS 1)) (0 ∷ 75 ∷ 10 ∷ 20 ∷ 10 ∷ 0 ∷ 8 ∷ 8 ∷ 8 ∷ 0 ∷ []) ∷
     Case.gives (shown (caseS 2)) (0 ∷ 138 ∷ 10 ∷ 10 ∷ 10 ∷ 0 ∷ 8 ∷ 8 ∷ 8 ∷ 0 ∷ []) ∷
-    -- box 2 grades leader 4 with 20 at confidence 1, boxes 1 and 3 with confidence 0
-    Case.gives (graded (caseS 0 .run) liesOfS 1 3) (20 ∷ 1 ∷ []) ∷
-    Case.gives (graded (caseS 0 .run) liesOfS 0 3) (0 ∷ 0 ∷ []) ∷
-    Case.gives (graded (caseS 0 .run) liesOfS 2 3) (0 ∷ 0 ∷ []) ∷
+    -- box 2 grades leader 4 with 20 at confidence 1 and support 2, boxes 1 and 3 with confidence 0 and support 1
+    Case.gives (graded (caseS 0 .run) liesOfS 1 3) (20 ∷ 1 ∷ 2 ∷ []) ∷
+    Case.gives (graded (caseS 0 .run) liesOfS 0 3) (0 ∷ 0 ∷ 1 ∷ []) ∷
+    Case.gives (graded (caseS 0 .run) liesOfS 2 3) (0 ∷ 0 ∷ 1 ∷ []) ∷
     -- the whole listing of its file
     Case.gives (listingOf fileOfS) linesOfS ∷
     -- rows 50, 50, 50, box 4 silent: 63 and 63 messages
@@ -121,15 +123,15 @@ marked =
     Case.gives (shown (quiet 4 1 0 (7 ∷ 7 ∷ 9 ∷ 9 ∷ []) 2)) (0 ∷ 216 ∷ 7 ∷ 7 ∷ 7 ∷ 7 ∷ 0 ∷ 0 ∷ 0 ∷ 0 ∷ []) ∷
     -- n = 1, t = 0, row 5: one iteration, row 5, no message
     Case.gives (shown (quiet 1 0 0 (5 ∷ []) 1)) (0 ∷ 0 ∷ 5 ∷ 0 ∷ []) ∷
-    -- grade, n = 7, t = 2: support 2, 3, 4, 5 gives 0, 1, 1, 2
-    Case.gives (gradeBy 2 2 5) (0 ∷ 0 ∷ []) ∷
-    Case.gives (gradeBy 2 3 4) (6 ∷ 1 ∷ []) ∷
-    Case.gives (gradeBy 2 4 3) (6 ∷ 1 ∷ []) ∷
-    Case.gives (gradeBy 2 5 2) (6 ∷ 2 ∷ []) ∷
+    -- grade, n = 7, t = 2: support 2, 3, 4, 5, so stated, gives 0, 1, 1, 2
+    Case.gives (gradeBy 2 2 5) (0 ∷ 0 ∷ 2 ∷ []) ∷
+    Case.gives (gradeBy 2 3 4) (6 ∷ 1 ∷ 3 ∷ []) ∷
+    Case.gives (gradeBy 2 4 3) (6 ∷ 1 ∷ 4 ∷ []) ∷
+    Case.gives (gradeBy 2 5 2) (6 ∷ 2 ∷ 5 ∷ []) ∷
     -- grade, n = 5, t = 1: support 3 gives 2, though n − t is 4
-    Case.gives (gradeBy 1 3 2) (6 ∷ 2 ∷ []) ∷
+    Case.gives (gradeBy 1 3 2) (6 ∷ 2 ∷ 3 ∷ []) ∷
     -- grade, n = 3, t = 0: support 1 gives 2; confidence 1 never arises when t is 0
-    Case.gives (gradeBy 0 1 2) (6 ∷ 2 ∷ []) ∷
+    Case.gives (gradeBy 0 1 2) (6 ∷ 2 ∷ 1 ∷ []) ∷
     Case.never (λ rows. gradeReply rows 0 .confidence) 1 ∷
     -- vote, n = 4, t = 1: rows 6, 6, 0, 6 give 6; rows 6, 6, 0, 0 give 0
     Case.gives (voteGives 1 (6 ∷ 6 ∷ 0 ∷ 6 ∷ [])) (0 ∷ 6 ∷ []) ∷

@@ -241,7 +241,12 @@ fn print_grade(rows: &[u64], t: u8, text: &mut [u8]) {
     inout::print_line(
         text,
         b"grade",
-        &[graded.refusal as u64, graded.row, graded.confidence as u64],
+        &[
+            graded.refusal as u64,
+            graded.row,
+            graded.confidence as u64,
+            graded.support as u64,
+        ],
     );
 }
 
@@ -551,13 +556,14 @@ fn cast(asked: Asked, table: &[u64]) -> Cast {
 
 // Prints what steps 1 to 4 give.
 fn print_cast(text: &mut [u8], cast: Cast) {
-    let mut numbers = [0u64; 340];
+    let mut numbers = [0u64; 509];
     numbers[0] = wide(cast.refusal);
     numbers[1] = cast.sent;
     let mut k: usize = 0;
     while k < 169 {
         numbers[2 + k] = cast.rows[k];
         numbers[171 + k] = wide(cast.confidences[k]);
+        numbers[340 + k] = wide(cast.supports[k]);
         k += 1;
     }
     inout::print_line(text, b"steps", &numbers);
@@ -759,6 +765,18 @@ fn answer_none(text: &mut [u8]) -> bool {
     true
 }
 
+// The confidence of a support.
+fn answer_confidence(bytes: &mut [u8], text: &mut [u8]) -> bool
+    requires { ⌜ length (now bytes) ≡ 200000 ⌝ }
+{
+    if !take(bytes, 2) {
+        return false;
+    }
+    let confidence = tally::confidence_at(bytes[0], bytes[1]);
+    inout::print_line(text, b"confidence", &[wide(confidence)]);
+    true
+}
+
 // The next request. False where there is none, or none that can be answered.
 fn answer(bytes: &mut [u8], numbers: &mut [u64], text: &mut [u8]) -> bool
     requires { ⌜ (length (now bytes) ≡ 200000) × (length (now numbers) ≡ 5001) ⌝ }
@@ -782,6 +800,7 @@ fn answer(bytes: &mut [u8], numbers: &mut [u64], text: &mut [u8]) -> bool
         18 => answer_listing(bytes, text),
         19 => answer_outcome(bytes, text),
         20 => answer_none(text),
+        34 => answer_confidence(bytes, text),
         _ => false,
     }
 }

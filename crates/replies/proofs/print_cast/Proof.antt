@@ -1,4 +1,4 @@
--- `replies::print_cast` is safe and ends: there are 340 numbers throughout. The measure is the number of places left.
+-- `replies::print_cast` is safe and ends: there are 509 numbers throughout. The measure is the number of places left.
 -- Assumes nothing.
 use Prim.Native.Nat.{_-_}
 use mathlib.Core.Path.{_≡_}
@@ -8,7 +8,7 @@ use Rattle.replies.proofs.print_cast.Statement.{statement}
 use Rattle.replies.proofs.print_cast.Tie as tie
 
 abbrev Inv-loop : tie.InvT-loop
-Inv-loop text cast numbers₀ k₀ t6 numbers k = length numbers ≡ 340
+Inv-loop text cast numbers₀ k₀ t6 numbers k = length numbers ≡ 509
 
 abbrev μ-loop : tie.MeasureT-loop
 μ-loop text cast numbers₀ k₀ t6 numbers k = 169 - k
@@ -55,6 +55,21 @@ mul-numbers-3 c = search needs
 array-write-numbers-4 : tie.Need-array-write-numbers-4 Inv-loop μ-loop
 array-write-numbers-4 c = search needs
 
+element-copy-out-wide-2 : tie.Need-element-copy-out-wide-2 Inv-loop μ-loop
+element-copy-out-wide-2 c = search needs
+
+wide-requires-3 : tie.Need-wide-requires-3 Inv-loop μ-loop
+wide-requires-3 c κs = search needs
+
+add-numbers-3 : tie.Need-add-numbers-3 Inv-loop μ-loop
+add-numbers-3 c = search needs
+
+mul-numbers-4 : tie.Need-mul-numbers-4 Inv-loop μ-loop
+mul-numbers-4 c = search needs
+
+array-write-numbers-5 : tie.Need-array-write-numbers-5 Inv-loop μ-loop
+array-write-numbers-5 c = search needs
+
 add-k : tie.Need-add-k Inv-loop μ-loop
 add-k c = search needs
 
@@ -99,6 +114,11 @@ print-cast-spec =
     add-numbers-2
     mul-numbers-3
     array-write-numbers-4
+    element-copy-out-wide-2
+    wide-requires-3
+    add-numbers-3
+    mul-numbers-4
+    array-write-numbers-5
     add-k
     loop-less
     loop-again
