@@ -60,6 +60,7 @@ struct state {
 struct grade {
     uint64_t row;
     uint8_t confidence;
+    uint8_t support; /* places of the row found most often, also where it is too few for a confidence */
 };
 
 struct choice {
@@ -72,6 +73,7 @@ struct cast {
     uint64_t messages;
     uint64_t row[MOST_BOXES * MOST_BOXES];
     uint8_t confidence[MOST_BOXES * MOST_BOXES];
+    uint8_t support[MOST_BOXES * MOST_BOXES];
 };
 
 struct heading {

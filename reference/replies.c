@@ -124,6 +124,7 @@ static int reply_grade(void)
     put_reply("grade", grade(rows, count, (unsigned)t, &answer));
     put_number(answer.row);
     put_number(answer.confidence);
+    put_number(answer.support);
     return 1;
 }
 
@@ -263,6 +264,8 @@ static int reply_steps(void)
         put_number(cast.row[i]);
     for (size_t i = 0; i < MOST_BOXES * MOST_BOXES; i++)
         put_number(cast.confidence[i]);
+    for (size_t i = 0; i < MOST_BOXES * MOST_BOXES; i++)
+        put_number(cast.support[i]);
     return 1;
 }
 

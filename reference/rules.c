@@ -63,7 +63,7 @@ static uint64_t vote_over(const uint64_t *rows, unsigned n, unsigned t)
     return 0;
 }
 
-/* Step 4. */
+/* Step 4. The support is stated whatever the confidence; where every row is 0 nothing was found, and it is 0. */
 static struct grade grade_over(const uint64_t *rows, unsigned n, unsigned t)
 {
     uint64_t best = 0;
@@ -77,7 +77,7 @@ static struct grade grade_over(const uint64_t *rows, unsigned n, unsigned t)
             support = places;
         }
     }
-    struct grade answer = {0, 0};
+    struct grade answer = {0, 0, (uint8_t)support};
     if (support > t) {
         answer.row = best;
         answer.confidence = support >= 2 * t + 1 ? 2 : 1;
@@ -310,6 +310,7 @@ static void step_four(const struct state *state, const uint64_t *table, sendings
             struct grade answer = grade_over(heard[k], n, state->t);
             cast->row[i * n + k] = answer.row;
             cast->confidence[i * n + k] = answer.confidence;
+            cast->support[i * n + k] = answer.support;
         }
     }
 }
