@@ -4,13 +4,15 @@ One proved program answers kinds 1 to 20 and another one kinds 21 to 33, so a st
 """
 
 import struct
+from itertools import permutations
 
 import calls
 import further
 import makers
 import texts
-from calls import PLACES, Request, most_messages, packed, pick_faulty, state_bytes, state_line
+from calls import PLACES, Request, column_line, most_messages, packed, pick_faulty, state_bytes, state_line
 from runfiles import TOP, Table, bits, heading_bytes, largest_t, table_rows
+from steprules import at_support
 
 # In the order of their kinds.
 CALLS = {"vote": calls.Vote, "grade": calls.Grade, "choice": calls.Choice, "start": calls.Start,
@@ -131,21 +133,76 @@ def columns_with(rng, n, t, support):
 
 
 def grade_line(row, support, t):
-    confidence = 2 if support >= 2 * t + 1 else 1 if support >= t + 1 else 0
-    return f"grade 0 {row if confidence else 0} {confidence}"
+    return " ".join(map(str, ("grade", 0, *at_support(row, support, t))))
+
+
+def grade_of(rows, t, about, row, support):
+    """A grade over these rows, of which the one that wins and its support are known."""
+    return Request(bytes((2, len(rows), t)) + packed(rows), about, 0, grade_line(row, support, t))
+
+
+def rivals(rng):
+    """Beside the row that is graded stands another, once less often or as often as there is room, in front or at the
+    end, lower or higher: its places are no part of the support."""
+    for n in range(1, PLACES + 1):
+        for t in range(largest_t(n) + 1):
+            for support in range(2, n):
+                low, high = rng.choice(TIES[2])
+                less = min(support - 1, n - support)
+                for row, rival in ((low, high), (high, low)):
+                    rows = [row] * support + [0] * (n - support - less)
+                    rng.shuffle(rows)
+                    for beside in ([rival] * less + rows, rows + [rival] * less):
+                        yield grade_of(beside, t, "grade beside a rival", row, support)
+
+
+def strangers(rng):
+    """No row stands twice: the lowest, which comes first, last or anywhere, has support 1, as all have."""
+    for n in range(1, PLACES + 1):
+        for t in range(largest_t(n) + 1):
+            low, *others = sorted(rng.sample((1, 2, 3, 2**31, 2**32, 2**32 + 1, 2**33, 2**62, 2**63 - 1, 2**63,
+                                              2**63 + 1, TOP - 1, TOP), n))
+            rng.shuffle(others)
+            for at in sorted({0, len(others), rng.randrange(n)}):
+                yield grade_of(others[:at] + [low] + others[at:], t, "grade without a row twice", low, 1)
+
+
+# Rows that tie, the lowest first.
+TIES = {2: ((1, 2), (1, TOP), (2**63 - 1, 2**63), (2**32 + 1, 2**33), (2**32 - 1, 2**32)),
+        3: ((1, 2, 3), (1, 2**63, TOP), (2**32 - 1, 2**32, 2**32 + 1), (2**63 - 1, 2**63, 2**63 + 1))}
+
+
+def tied_columns(rng, n, tied, support):
+    """The tied rows in each order, so that the first and the last row in the column are the lowest or others."""
+    for order in permutations(tied):
+        rows = list(order) * support
+        while len(rows) < n:
+            rows.insert(rng.randrange(len(rows) + 1), 0)
+        yield rows
 
 
 def ties(rng):
-    """Two rows that stand equally often: the lowest is graded, as an unsigned number."""
+    """Two or three rows that stand equally often: the lowest is graded, as an unsigned number, with their support."""
     for n in range(2, PLACES + 1):
         for t in range(largest_t(n) + 1):
-            for support in range(1, n // 2 + 1):
-                low, high = rng.choice(((1, 2), (1, TOP), (2**63 - 1, 2**63), (2**32 + 1, 2**33), (2**32 - 1, 2**32)))
-                rows = [low, high] * support + [0] * (n - 2 * support)
-                rng.shuffle(rows)
-                yield Request(bytes((2, n, t)) + packed(rows), "grade of a tie", 0, grade_line(low, support, t))
-                data = bytes((3, n, n)) + packed(rows) + bytes([2] * n)
-                yield Request(data, "choice of a tie", 0, f"choice 0 {low} {support}")
+            for count in (2, 3):
+                for support in range(1, n // count + 1):
+                    tied = rng.choice(TIES[count])
+                    for rows in tied_columns(rng, n, tied, support):
+                        yield grade_of(rows, t, f"grade of a tie of {count}", tied[0], support)
+                    data = bytes((3, n, n)) + packed(rows) + bytes([2] * n)
+                    yield Request(data, "choice of a tie", 0, f"choice 0 {tied[0]} {support}")
+
+
+def refused_columns(rng):
+    """One row in all places, which would have full support: slices that are too short or too long, and every n with
+    a t that is too large."""
+    sizes = [(n, t, 4) for n in (0, 14, 255) for t in (0, 1, 4, 255)]
+    sizes += [(n, t, 5) for n in range(1, PLACES + 1) for t in (largest_t(n) + 1, n, 255)]
+    for n, t, refusal in sizes:
+        data = bytes((n, t)) + packed([rng.choice((1, TOP))] * n)
+        yield Request(b"\1" + data, "refused vote", refusal, f"vote {refusal} 0")
+        yield Request(b"\2" + data, "refused grade", refusal, f"grade {refusal} 0 0 0")
 
 
 def edges_of_t(rng):
@@ -154,8 +211,8 @@ def edges_of_t(rng):
         for t, refusal in ((largest_t(n), 0), (largest_t(n) + 1, 5)):
             rows = [rng.randrange(1, 9) for _ in range(n)]
             about = "edge of t"
-            yield Request(bytes((1, n, t)) + packed(rows), about, refusal)
-            yield Request(bytes((2, n, t)) + packed(rows), about, refusal)
+            for kind in (1, 2):
+                yield Request(bytes((kind, n, t)) + packed(rows), about, refusal, column_line(kind, rows, t))
             yield Request(struct.pack(">BBBHB", 4, n, t, 0, n) + packed(rows), about, refusal)
             data = heading_bytes(n, t, 0, rows)
             yield Request(bytes((6, len(data), n)) + data, about, refusal)

@@ -9,6 +9,7 @@ from pathlib import Path
 from calls import PLACES, Call, Iteration, Request, packed, state_line, wrong_t
 from edges import end_of, silent_listing, silent_run
 from runfiles import DAMAGES, KINDS, OF_LENGTH, TOP, Table, bits, damage_choices, largest_t, some_rows, table_rows
+from steprules import Cast, size_refusal
 
 EXAMPLES = Path(__file__).resolve().parent.parent / "examples"
 MOST_LENT, MOST_FILE = 5000, 200000
@@ -78,7 +79,7 @@ class Sizes(Call):
         return struct.pack(">BQB", 10, self.n, self.t)
 
     def known(self):
-        return reply("sizes", 4 if not 1 <= self.n <= PLACES else 5 if 3 * self.t >= self.n else 0)
+        return reply("sizes", size_refusal(self.n, self.t))
 
 
 class Test(Call):
@@ -177,14 +178,21 @@ class Steps(Iteration):
         self.n = rng.choice(WRONG_N)
 
     def to_bytes(self):
-        lead = struct.pack(">BQBH13Q13H", 14, self.n, self.t, self.faulty, *self.rows, *self.lists)
-        return lead + struct.pack(">H", len(self.table)) + packed(self.table)
+        return steps_bytes(self.n, self.t, self.faulty, self.rows, self.lists, self.table)
+
+    def known(self):
+        refusal = size_refusal(self.n, self.t)
+        if refusal == 0 and len(self.table) != table_rows(self.n):
+            refusal = 11
+        if refusal:
+            return steps_refused(refusal)
+        cast = Cast(self.n, self.t, self.faulty, self.rows, self.lists, self.table)
+        return steps_line(cast.messages, *cast.parts())
 
 
-def steps_line(messages, rows, confidences):
-    places = PLACES * PLACES
-    return reply("steps", 0, messages, *rows, *[0] * (places - len(rows)), *confidences,
-                 *[0] * (places - len(confidences)))
+def steps_line(messages, rows, confidences, supports):
+    places = [part + [0] * (PLACES * PLACES - len(part)) for part in (rows, confidences, supports)]
+    return reply("steps", 0, messages, *sum(places, []))
 
 
 def steps_bytes(n, t, faulty, rows, lists, table):
@@ -194,20 +202,20 @@ def steps_bytes(n, t, faulty, rows, lists, table):
 
 
 def known_steps(rng):
-    """Where no box is faulty and no list has a box, all boxes hear the same. Each row that is not 0 then has
-    confidence 2, and all n send it on to the n - 1 others, twice. Where every box is on every list, step 1 alone sends
-    rows."""
+    """Where no box is faulty and no list has a box, all boxes hear the same. Each row that is not 0 then has support n
+    and confidence 2, and all n send it on to the n - 1 others, twice. Where every box is on every list, step 1 alone
+    sends rows."""
     for n in range(1, PLACES + 1):
         for t in range(largest_t(n) + 1):
             rows = [rng.choice((0, row, row)) for row in rng.choice((some_rows(rng, n), [TOP] * n, [2**32] * n))]
             table = [rng.randrange(TOP + 1)] * table_rows(n)
             first = (n - 1) * (n - rows.count(0))
-            firm = [2 if row else 0 for row in rows]
+            firm, heard = [2 if row else 0 for row in rows], [n if row else 0 for row in rows]
             stray = 2**16 - (1 << n)
             yield Request(steps_bytes(n, t, stray, rows, [stray] * PLACES, table), "steps without faults", 0,
-                          steps_line(first + 2 * n * first, rows * n, firm * n))
+                          steps_line(first + 2 * n * first, rows * n, firm * n, heard * n))
             yield Request(steps_bytes(n, t, 0, rows, [2**16 - 1] * PLACES, table), "steps, all listed", 0,
-                          steps_line(first, [], []))
+                          steps_line(first, [], [], []))
 
 
 def steps_with_rubbish(rng):
@@ -239,7 +247,7 @@ def steps_edges(rng):
 
 
 def steps_refused(refusal):
-    return reply("steps", refusal, *[0] * (1 + 2 * PLACES * PLACES))
+    return reply("steps", refusal, *[0] * (1 + 3 * PLACES * PLACES))
 
 
 # Lines.
