@@ -173,11 +173,13 @@ TIES = {2: ((1, 2), (1, TOP), (2**63 - 1, 2**63), (2**32 + 1, 2**33), (2**32 - 1
 
 
 def tied_columns(rng, n, tied, support):
-    """The tied rows in each order, so that the first and the last row in the column are the lowest or others."""
+    """The tied rows in each order, so that the first and the last of them are the lowest or others. In the places that
+    are left stand zeros or, where the tied rows stand twice or more, rows that stand once."""
     for order in permutations(tied):
         rows = list(order) * support
-        while len(rows) < n:
-            rows.insert(rng.randrange(len(rows) + 1), 0)
+        for k in range(n - len(rows)):
+            other = rng.choice((0, 10 + k)) if support > 1 else 0
+            rows.insert(rng.randrange(len(rows) + 1), other)
         yield rows
 
 

@@ -222,8 +222,8 @@ def unusual_steps():
     table = third(4, (2, 1, 1, 10), (3, 1, 1, 10), (4, 1, 1, 10), (2, 2, 1, 10), (2, 1, 2, 5))
     yield steps_bytes(4, 1, 14, [10], [], table), steps_line(6, [10], [2], [3, 1])
     # n = 4, t = 1, nobody faulty, box 1 lists box 2. It hears nobody but boxes 3 and 4 about leader 2 and has no vote
-    # on it; the others hear 20 three times. So leader 2 has support 2 with box 1 and 3 with the others; leaders 1, 3 and
-    # 4 have 3 with box 1 and 4 with the others. Messages: 12 in step 1, 9 + 36 in step 2 and again in step 3.
+    # on it; the others hear 20 three times. So leader 2 has support 2 with box 1 and 3 with the others. Leaders 1, 3
+    # and 4 have 3 with box 1 and 4 with the others. Messages: 12 in step 1, 9 + 36 in step 2 and again in step 3.
     yield (steps_bytes(4, 1, 0, [10, 20, 30, 40], [2], Table(4).rows),
            steps_line(102, [10, 20, 30, 40] * 4, [2, 1, 2, 2] + [2, 2, 2, 2] * 3, [3, 2, 3, 3] + [4, 3, 4, 4] * 3))
 
