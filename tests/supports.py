@@ -121,10 +121,14 @@ def some_list(rng, boxes):
 
 
 def steps_near(rng, about, n, t, count, voice, listed="faulty"):
-    """The lists of sound boxes draw from the faulty boxes, from all or from none."""
+    """The lists of sound boxes draw from the faulty boxes, from all or from none; or from the faulty ones, but one
+    sound box lists one sound box too, which may be itself."""
     boxes = sorted(rng.sample(range(n), count))
-    choice = {"faulty": boxes, "all": range(n), "none": ()}[listed]
+    choice = {"faulty": boxes, "one sound": boxes, "all": range(n), "none": ()}[listed]
     lists = [0 if k in boxes else some_list(rng, choice) for k in range(n)]
+    if listed == "one sound":
+        i, j = rng.choices([k for k in range(n) if k not in boxes], k=2)
+        lists[i] |= 1 << j
     return Asked(rng, n, t, boxes, lists, voice).request(about)
 
 
@@ -137,12 +141,14 @@ def plain_steps(rng, n, t):
 
 
 def other_steps(rng, n, t):
-    """More than t faulty boxes, and sound boxes on lists."""
-    for voice, listed in (("the same", "none"), ("the same", "faulty"), ("each its own", "faulty")):
-        many = rng.randrange(t + 1, max(n, 2))
-        yield steps_near(rng, "steps, more than t faulty", n, t, many, voice, listed)
+    """More than t faulty boxes, one more too, and sound boxes on lists."""
+    many = rng.randrange(t + 1, max(n, 2))
+    for count, voice, listed in ((many, "the same", "none"), (t + 1, "the same", "faulty"),
+                                 (many, "each its own", "faulty"), (t + 1, "another", "faulty")):
+        yield steps_near(rng, "steps, more than t faulty", n, t, count, voice, listed)
     for voice in ("the same", "each its own"):
         yield steps_near(rng, "steps, sound boxes listed", n, t, rng.randrange(t + 1), voice, "all")
+        yield steps_near(rng, "steps, one sound box listed", n, t, rng.randrange(t + 1), voice, "one sound")
 
 
 def all_steps(rng):
