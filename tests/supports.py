@@ -16,6 +16,9 @@ from steprules import PLACES, Cast
 # What the faulty boxes say about sound leaders in step 3.
 VOICES = "the same", "another", "nothing", "each its own"
 
+# Each of these adds 1 to the support of a sound leader in a plain request.
+ECHO = "plain, sound leader, a heard box says its row"
+
 
 class Echoes(Liars):
     """Liars that say a sound leader's row again, or deny it, so that each sound box may find another support."""
@@ -86,6 +89,8 @@ class Asked:
         return [name for name, number in numbers.items() if number == support]
 
     def plain_leader(self, k, supports):
+        """With row 0 a leader has the support that the faulty boxes give it. Else the support is known in a second
+        way, without the steps before the last."""
         least = self.n - len(self.boxes)
         if not self.rows[k]:
             for support in supports:
@@ -97,8 +102,11 @@ class Asked:
             yield f"plain, sound leader, support {more}"
         if len(set(supports)) > 2:
             yield "plain, sound leader, three supports at once"
-        for i in self.cast.sound:
-            yield from (self.said(i, j, k) for j in self.boxes)
+        for i, support in zip(self.cast.sound, supports):
+            said = [self.said(i, j, k) for j in self.boxes]
+            if support != least + said.count(ECHO):
+                raise AssertionError(f"a plain support of {support} where {least} and {said.count(ECHO)} are heard")
+            yield from said
 
     def said(self, i, j, k):
         """What faulty box j says to sound box i about a leader with a row."""
@@ -111,7 +119,7 @@ SHOWN = [*(f"{kind} leader, support {name}" for kind in ("plain, faulty", "not p
            for name in ("0", "t", "t + 1", "2t", "2t + 1", "n")),
          *(f"plain, sound leader with row 0, support {name}" for name in ("0", "below t", "t")),
          *(f"plain, sound leader, support {name}" for name in ("n - f", "between n - f and n", "n")),
-         *(f"plain, sound leader, a heard box says {what}" for what in ("its row", "another row", "nothing")),
+         ECHO, "plain, sound leader, a heard box says another row", "plain, sound leader, a heard box says nothing",
          "plain, sound leader, a listed box says its row", "plain, sound leader, three supports at once"]
 
 
