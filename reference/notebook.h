@@ -146,6 +146,7 @@ int in_set(unsigned set, uint64_t box);
 int has_stray_bit(unsigned n, unsigned set);
 int is_sound_zero(unsigned faulty, uint64_t box, uint64_t row);
 enum refusal check_n_t(uint64_t n, unsigned t);
+unsigned confidence_of(unsigned support, unsigned t);
 enum refusal vote(const uint64_t *rows, size_t count, unsigned t, uint64_t *row);
 enum refusal grade(const uint64_t *rows, size_t count, unsigned t, struct grade *answer);
 enum refusal choice(const uint64_t *rows, size_t count, const uint8_t *confidences, size_t confidence_count,

@@ -1,6 +1,6 @@
 """Requests from seeds, in the format of docs/REQUESTS.md: all calls, and the edges of kinds 1 to 7.
 
-One proved program answers kinds 1 to 20 and another one kinds 21 to 33, so a stream has kinds of one group alone.
+One proved program answers kinds 1 to 20 and 34, another one kinds 21 to 33. So a stream has kinds of one group alone.
 """
 
 import struct
@@ -19,7 +19,8 @@ CALLS = {"vote": calls.Vote, "grade": calls.Grade, "choice": calls.Choice, "star
          "iteration": calls.Iteration, "heading": calls.Heading, "table": calls.TableBytes, "largest": further.Largest,
          "rows": further.Rows, "sizes": further.Sizes, "member": further.Member, "stray": further.Stray,
          "zero": further.Zero, "steps": further.Steps, "line": further.Line, "put": further.Put, "part": further.Part,
-         "listing": further.Listing, "outcome": further.Outcome, "none": further.NoRun}
+         "listing": further.Listing, "outcome": further.Outcome, "none": further.NoRun,
+         "confidence": further.Confidence}
 TEXT_CALLS = {"headed": texts.Headed, "tabled": texts.Tabled, "read": texts.Read, "place": texts.Place,
               "say": texts.Say, "taken": makers.Taken, "ended": makers.Ended, "told": texts.Told,
               "shown": texts.Shown, "maker": texts.NoText, "row": texts.Row, "begins": texts.Begins,
@@ -88,7 +89,7 @@ def wild_heading(rng):
 OFTEN = ("vote", "grade", "grade", "choice", "choice", "start", "iteration", "iteration", "iteration", "heading",
          "table")
 FURTHER = ("largest", "rows", "sizes", "member", "stray", "zero", "steps", "steps", "steps", "line", "line", "put",
-           "put", "part", "part", "listing", "outcome")
+           "put", "part", "part", "listing", "outcome", "confidence")
 TEXTS = ("headed", "headed", "tabled", "read", "read", "read", "place", "place", "say", "say", "taken", "taken",
          "taken", "ended", "ended", "told", "shown", "shown", "row", "row", "begins", "settled", "settled")
 
@@ -333,13 +334,15 @@ def bad_ends(rng, group, too_long_ones):
     """How a stream may end: with a request that is unknown or too long and good ones behind it, with one that is cut,
     or as it should. None of this has a reply."""
     good = b"".join(broken(rng, name, ()).data for name in group)
-    for kind in (0, 34, 35, 72, 255):
+    for kind in (0, 35, 36, 72, 255):
         yield f"kind {kind}", bytes((kind,)) + good
     for about, data in too_long_ones:
         yield about, data + good
     longer = [name for name in group if name not in ("none", "maker")]
     for name in longer:
         yield f"{name} without its last byte", broken(rng, name, ()).data[:-1]
+    if "confidence" in group:
+        yield "confidence without both its bytes", broken(rng, "confidence", ()).data[:1]
     for name in rng.sample(longer, 5):
         data = broken(rng, name, ()).data
         yield f"{name} cut", data[:rng.choice((1, rng.randrange(1, len(data))))]

@@ -57,6 +57,15 @@ def supports():
         yield column(2, rows, t), f"grade {refusal} 0 0 0"
 
 
+def confidences():
+    """t, a support, and its confidence. Neither need be one that some number of boxes has."""
+    for t, support, due in ((2, 2, 0), (2, 3, 1), (2, 4, 1), (2, 5, 2), (0, 0, 0), (0, 1, 2), (255, 255, 0),
+                            (127, 255, 2), (127, 254, 1), (100, 200, 1), (100, 201, 2),
+                            # 2t + 1 is 257 here, which is 1 in 8 bits.
+                            (128, 1, 0), (128, 128, 0), (128, 129, 1), (128, 255, 1)):
+        yield bytes((34, support, t)), f"confidence {due}"
+
+
 def choices():
     whole = [1 * TANK + 9, 1 * TANK + 8, 2 * TANK + 5, 3 * TANK + 5]
     yield bytes((3, 4, 4)) + packed(whole) + bytes([2] * 4), "choice 0 4294967304 1"
@@ -295,7 +304,7 @@ def files():
 
 
 def all_cases():
-    for part in (votes_and_grades, supports, choices, sizes, iterations, two_boxes, at_the_limit, wide_states,
-                 constants, tests, steps, echoes, unusual_steps, lines, parts, files):
+    for part in (votes_and_grades, supports, confidences, choices, sizes, iterations, two_boxes, at_the_limit,
+                 wide_states, constants, tests, steps, echoes, unusual_steps, lines, parts, files):
         for data, line_due in part():
             yield Request(data, "written by hand", None, line_due)

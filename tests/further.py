@@ -1,4 +1,4 @@
-"""The calls of kinds 8 to 20 in docs/REQUESTS.md, drawn from a seed, and their edges.
+"""The calls of kinds 8 to 20 and 34 in docs/REQUESTS.md, drawn from a seed, and their edges.
 
 Of most of them the rules give the whole reply at once, so both programs are held to it.
 """
@@ -9,7 +9,7 @@ from pathlib import Path
 from calls import PLACES, Call, Iteration, Request, packed, state_line, wrong_t
 from edges import end_of, silent_listing, silent_run
 from runfiles import DAMAGES, KINDS, OF_LENGTH, TOP, Table, bits, damage_choices, largest_t, some_rows, table_rows
-from steprules import Cast, size_refusal
+from steprules import Cast, confidence_at, size_refusal
 
 EXAMPLES = Path(__file__).resolve().parent.parent / "examples"
 MOST_LENT, MOST_FILE = 5000, 200000
@@ -144,6 +144,34 @@ def test_edges():
         low = (1 << min(n, 16)) - 1
         for boxes in {0, 1, low, low >> 1, 1 << max(n - 1, 0) % 16, 1 << n % 16, 0x8000, 0xffff, 0xffff ^ low}:
             yield asked(Stray, "edge of a stray bit", n=n, set=boxes)
+
+
+# The confidence of a support.
+
+class Confidence(Call):
+    """Any support and any t: half of them where some n has such a support and such a t."""
+
+    def __init__(self, rng):
+        self.support, self.t = rng.choice(((rng.randrange(PLACES + 1), rng.randrange(largest_t(PLACES) + 1)),
+                                           (rng.randrange(256), rng.randrange(256))))
+
+    @classmethod
+    def answers(cls):
+        return [0, 1, 2]
+
+    def to_bytes(self):
+        return bytes((34, self.support, self.t))
+
+    def known(self):
+        return reply("confidence", confidence_at(self.support, self.t))
+
+
+def confidence_edges(rng):
+    """For every t the supports around t and around 2t, the least, the most, 13, and one that is drawn."""
+    for t in range(256):
+        supports = {0, t - 1, t, t + 1, 2 * t - 1, 2 * t, 2 * t + 1, 2 * t + 2, PLACES, 255, rng.randrange(256)}
+        for support in sorted(supports & set(range(256))):
+            yield asked(Confidence, "edge of a confidence", support=support, t=t)
 
 
 # Steps 1 to 4.
@@ -556,6 +584,7 @@ class NoRun(Call):
 
 def all_edges(rng):
     yield from test_edges()
+    yield from confidence_edges(rng)
     yield from known_steps(rng)
     yield from steps_with_rubbish(rng)
     yield from steps_edges(rng)

@@ -1,4 +1,4 @@
-"""The rules of vote, grade and steps 1 to 4 in few lines: what both programs are held to at kinds 1, 2 and 14.
+"""The rules of vote, grade and steps 1 to 4 in few lines: what both programs are held to at kinds 1, 2, 14 and 34.
 
 Boxes count from 0 here. A column is what one box hears about one leader, in the order of the senders.
 """
@@ -22,9 +22,13 @@ def voted(column, t):
     return row if places >= len(column) - t else 0
 
 
+def confidence_at(support, t):
+    return 2 if support >= 2 * t + 1 else 1 if support >= t + 1 else 0
+
+
 def at_support(row, support, t):
     """Row, confidence and support of a grade, where this row is the one found most often."""
-    confidence = 2 if support >= 2 * t + 1 else 1 if support >= t + 1 else 0
+    confidence = confidence_at(support, t)
     return row if confidence else 0, confidence, support
 
 
