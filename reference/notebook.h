@@ -60,6 +60,7 @@ struct state {
 struct grade {
     uint64_t row;
     uint8_t confidence;
+    uint8_t support; /* places of the row found most often, also where it is too few for a confidence */
 };
 
 struct choice {
@@ -72,6 +73,7 @@ struct cast {
     uint64_t messages;
     uint64_t row[MOST_BOXES * MOST_BOXES];
     uint8_t confidence[MOST_BOXES * MOST_BOXES];
+    uint8_t support[MOST_BOXES * MOST_BOXES];
 };
 
 struct heading {
@@ -144,6 +146,7 @@ int in_set(unsigned set, uint64_t box);
 int has_stray_bit(unsigned n, unsigned set);
 int is_sound_zero(unsigned faulty, uint64_t box, uint64_t row);
 enum refusal check_n_t(uint64_t n, unsigned t);
+unsigned confidence_of(unsigned support, unsigned t);
 enum refusal vote(const uint64_t *rows, size_t count, unsigned t, uint64_t *row);
 enum refusal grade(const uint64_t *rows, size_t count, unsigned t, struct grade *answer);
 enum refusal choice(const uint64_t *rows, size_t count, const uint8_t *confidences, size_t confidence_count,

@@ -1,7 +1,10 @@
-/* The replies to a stream of requests, in the format of docs/REQUESTS.md: the stream, and kinds 1 to 20. */
+/* The replies to a stream of requests, in the format of docs/REQUESTS.md: the stream, and kinds 1 to 20 and 34. */
 #include "replies.h"
 
 enum { STATE_BYTES = 143 };
+
+/* It came later than the kinds of textreplies.c, but it stands in the streams of kinds 1 to 20. */
+enum { CONFIDENCE_KIND = 34 };
 
 uint8_t bytes[MOST_FILE_BYTES];
 uint64_t rows[MOST_LENT];
@@ -124,6 +127,7 @@ static int reply_grade(void)
     put_reply("grade", grade(rows, count, (unsigned)t, &answer));
     put_number(answer.row);
     put_number(answer.confidence);
+    put_number(answer.support);
     return 1;
 }
 
@@ -263,6 +267,8 @@ static int reply_steps(void)
         put_number(cast.row[i]);
     for (size_t i = 0; i < MOST_BOXES * MOST_BOXES; i++)
         put_number(cast.confidence[i]);
+    for (size_t i = 0; i < MOST_BOXES * MOST_BOXES; i++)
+        put_number(cast.support[i]);
     return 1;
 }
 
@@ -350,6 +356,15 @@ static int reply_none(void)
     return 1;
 }
 
+static int reply_confidence(void)
+{
+    uint64_t support, t;
+    if (!take_number(1, &support) || !take_number(1, &t))
+        return 0;
+    put_reply("confidence", confidence_of((unsigned)support, (unsigned)t));
+    return 1;
+}
+
 /* In the order of their kinds, which begin with 1. */
 static int (*const REPLIES[])(void) = {
     reply_vote, reply_grade, reply_choice, reply_start, reply_iteration, reply_heading, reply_table, reply_largest,
@@ -360,6 +375,8 @@ static int (*const REPLIES[])(void) = {
 static int reply_to(uint64_t kind)
 {
     const uint64_t count = sizeof REPLIES / sizeof REPLIES[0];
+    if (kind == CONFIDENCE_KIND)
+        return reply_confidence();
     if (kind < 1 || kind > count + TEXT_REPLIES)
         return 0;
     return kind <= count ? REPLIES[kind - 1]() : TEXTS[kind - 1 - count]();

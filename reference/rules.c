@@ -63,7 +63,15 @@ static uint64_t vote_over(const uint64_t *rows, unsigned n, unsigned t)
     return 0;
 }
 
-/* Step 4. */
+/* The thresholds of step 4, which stand here alone. With t = 0 both are 1, so that of confidence 2 comes first. */
+unsigned confidence_of(unsigned support, unsigned t)
+{
+    if (support >= 2 * t + 1)
+        return 2;
+    return support > t ? 1 : 0;
+}
+
+/* Step 4. The support is stated whatever the confidence; where every row is 0 nothing was found, and it is 0. */
 static struct grade grade_over(const uint64_t *rows, unsigned n, unsigned t)
 {
     uint64_t best = 0;
@@ -77,11 +85,10 @@ static struct grade grade_over(const uint64_t *rows, unsigned n, unsigned t)
             support = places;
         }
     }
-    struct grade answer = {0, 0};
-    if (support > t) {
+    struct grade answer = {0, 0, (uint8_t)support};
+    answer.confidence = (uint8_t)confidence_of(support, t);
+    if (answer.confidence > 0)
         answer.row = best;
-        answer.confidence = support >= 2 * t + 1 ? 2 : 1;
-    }
     return answer;
 }
 
@@ -310,6 +317,7 @@ static void step_four(const struct state *state, const uint64_t *table, sendings
             struct grade answer = grade_over(heard[k], n, state->t);
             cast->row[i * n + k] = answer.row;
             cast->confidence[i * n + k] = answer.confidence;
+            cast->support[i * n + k] = answer.support;
         }
     }
 }

@@ -1,23 +1,26 @@
 """Requests from seeds, in the format of docs/REQUESTS.md: all calls, and the edges of kinds 1 to 7.
 
-One proved program answers kinds 1 to 20 and another one kinds 21 to 33, so a stream has kinds of one group alone.
+One proved program answers kinds 1 to 20 and 34, another one kinds 21 to 33. So a stream has kinds of one group alone.
 """
 
 import struct
+from itertools import permutations
 
 import calls
 import further
 import makers
 import texts
-from calls import PLACES, Request, most_messages, packed, pick_faulty, state_bytes, state_line
+from calls import PLACES, Request, column_line, most_messages, packed, pick_faulty, state_bytes, state_line
 from runfiles import TOP, Table, bits, heading_bytes, largest_t, table_rows
+from steprules import at_support
 
 # In the order of their kinds.
 CALLS = {"vote": calls.Vote, "grade": calls.Grade, "choice": calls.Choice, "start": calls.Start,
          "iteration": calls.Iteration, "heading": calls.Heading, "table": calls.TableBytes, "largest": further.Largest,
          "rows": further.Rows, "sizes": further.Sizes, "member": further.Member, "stray": further.Stray,
          "zero": further.Zero, "steps": further.Steps, "line": further.Line, "put": further.Put, "part": further.Part,
-         "listing": further.Listing, "outcome": further.Outcome, "none": further.NoRun}
+         "listing": further.Listing, "outcome": further.Outcome, "none": further.NoRun,
+         "confidence": further.Confidence}
 TEXT_CALLS = {"headed": texts.Headed, "tabled": texts.Tabled, "read": texts.Read, "place": texts.Place,
               "say": texts.Say, "taken": makers.Taken, "ended": makers.Ended, "told": texts.Told,
               "shown": texts.Shown, "maker": texts.NoText, "row": texts.Row, "begins": texts.Begins,
@@ -86,7 +89,7 @@ def wild_heading(rng):
 OFTEN = ("vote", "grade", "grade", "choice", "choice", "start", "iteration", "iteration", "iteration", "heading",
          "table")
 FURTHER = ("largest", "rows", "sizes", "member", "stray", "zero", "steps", "steps", "steps", "line", "line", "put",
-           "put", "part", "part", "listing", "outcome")
+           "put", "part", "part", "listing", "outcome", "confidence")
 TEXTS = ("headed", "headed", "tabled", "read", "read", "read", "place", "place", "say", "say", "taken", "taken",
          "taken", "ended", "ended", "told", "shown", "shown", "row", "row", "begins", "settled", "settled")
 
@@ -131,21 +134,78 @@ def columns_with(rng, n, t, support):
 
 
 def grade_line(row, support, t):
-    confidence = 2 if support >= 2 * t + 1 else 1 if support >= t + 1 else 0
-    return f"grade 0 {row if confidence else 0} {confidence}"
+    return " ".join(map(str, ("grade", 0, *at_support(row, support, t))))
+
+
+def grade_of(rows, t, about, row, support):
+    """A grade over these rows, of which the one that wins and its support are known."""
+    return Request(bytes((2, len(rows), t)) + packed(rows), about, 0, grade_line(row, support, t))
+
+
+def rivals(rng):
+    """Beside the row that is graded stands another, once less often or as often as there is room, in front or at the
+    end, lower or higher: its places are no part of the support."""
+    for n in range(1, PLACES + 1):
+        for t in range(largest_t(n) + 1):
+            for support in range(2, n):
+                low, high = rng.choice(TIES[2])
+                less = min(support - 1, n - support)
+                for row, rival in ((low, high), (high, low)):
+                    rows = [row] * support + [0] * (n - support - less)
+                    rng.shuffle(rows)
+                    for beside in ([rival] * less + rows, rows + [rival] * less):
+                        yield grade_of(beside, t, "grade beside a rival", row, support)
+
+
+def strangers(rng):
+    """No row stands twice: the lowest, which comes first, last or anywhere, has support 1, as all have."""
+    for n in range(1, PLACES + 1):
+        for t in range(largest_t(n) + 1):
+            low, *others = sorted(rng.sample((1, 2, 3, 2**31, 2**32, 2**32 + 1, 2**33, 2**62, 2**63 - 1, 2**63,
+                                              2**63 + 1, TOP - 1, TOP), n))
+            rng.shuffle(others)
+            for at in sorted({0, len(others), rng.randrange(n)}):
+                yield grade_of(others[:at] + [low] + others[at:], t, "grade without a row twice", low, 1)
+
+
+# Rows that tie, the lowest first.
+TIES = {2: ((1, 2), (1, TOP), (2**63 - 1, 2**63), (2**32 + 1, 2**33), (2**32 - 1, 2**32)),
+        3: ((1, 2, 3), (1, 2**63, TOP), (2**32 - 1, 2**32, 2**32 + 1), (2**63 - 1, 2**63, 2**63 + 1))}
+
+
+def tied_columns(rng, n, tied, support):
+    """The tied rows in each order, so that the first and the last of them are the lowest or others. In the places that
+    are left stand zeros or, where the tied rows stand twice or more, rows that stand once."""
+    for order in permutations(tied):
+        rows = list(order) * support
+        for k in range(n - len(rows)):
+            other = rng.choice((0, 10 + k)) if support > 1 else 0
+            rows.insert(rng.randrange(len(rows) + 1), other)
+        yield rows
 
 
 def ties(rng):
-    """Two rows that stand equally often: the lowest is graded, as an unsigned number."""
+    """Two or three rows that stand equally often: the lowest is graded, as an unsigned number, with their support."""
     for n in range(2, PLACES + 1):
         for t in range(largest_t(n) + 1):
-            for support in range(1, n // 2 + 1):
-                low, high = rng.choice(((1, 2), (1, TOP), (2**63 - 1, 2**63), (2**32 + 1, 2**33), (2**32 - 1, 2**32)))
-                rows = [low, high] * support + [0] * (n - 2 * support)
-                rng.shuffle(rows)
-                yield Request(bytes((2, n, t)) + packed(rows), "grade of a tie", 0, grade_line(low, support, t))
-                data = bytes((3, n, n)) + packed(rows) + bytes([2] * n)
-                yield Request(data, "choice of a tie", 0, f"choice 0 {low} {support}")
+            for count in (2, 3):
+                for support in range(1, n // count + 1):
+                    tied = rng.choice(TIES[count])
+                    for rows in tied_columns(rng, n, tied, support):
+                        yield grade_of(rows, t, f"grade of a tie of {count}", tied[0], support)
+                    data = bytes((3, n, n)) + packed(rows) + bytes([2] * n)
+                    yield Request(data, "choice of a tie", 0, f"choice 0 {tied[0]} {support}")
+
+
+def refused_columns(rng):
+    """One row in all places, which would have full support: slices that are too short or too long, and every n with
+    a t that is too large."""
+    sizes = [(n, t, 4) for n in (0, 14, 255) for t in (0, 1, 4, 255)]
+    sizes += [(n, t, 5) for n in range(1, PLACES + 1) for t in (largest_t(n) + 1, n, 255)]
+    for n, t, refusal in sizes:
+        data = bytes((n, t)) + packed([rng.choice((1, TOP))] * n)
+        yield Request(b"\1" + data, "refused vote", refusal, f"vote {refusal} 0")
+        yield Request(b"\2" + data, "refused grade", refusal, f"grade {refusal} 0 0 0")
 
 
 def edges_of_t(rng):
@@ -154,8 +214,8 @@ def edges_of_t(rng):
         for t, refusal in ((largest_t(n), 0), (largest_t(n) + 1, 5)):
             rows = [rng.randrange(1, 9) for _ in range(n)]
             about = "edge of t"
-            yield Request(bytes((1, n, t)) + packed(rows), about, refusal)
-            yield Request(bytes((2, n, t)) + packed(rows), about, refusal)
+            for kind in (1, 2):
+                yield Request(bytes((kind, n, t)) + packed(rows), about, refusal, column_line(kind, rows, t))
             yield Request(struct.pack(">BBBHB", 4, n, t, 0, n) + packed(rows), about, refusal)
             data = heading_bytes(n, t, 0, rows)
             yield Request(bytes((6, len(data), n)) + data, about, refusal)
@@ -274,13 +334,15 @@ def bad_ends(rng, group, too_long_ones):
     """How a stream may end: with a request that is unknown or too long and good ones behind it, with one that is cut,
     or as it should. None of this has a reply."""
     good = b"".join(broken(rng, name, ()).data for name in group)
-    for kind in (0, 34, 35, 72, 255):
+    for kind in (0, 35, 36, 72, 255):
         yield f"kind {kind}", bytes((kind,)) + good
     for about, data in too_long_ones:
         yield about, data + good
     longer = [name for name in group if name not in ("none", "maker")]
     for name in longer:
         yield f"{name} without its last byte", broken(rng, name, ()).data[:-1]
+    if "confidence" in group:
+        yield "confidence without both its bytes", broken(rng, "confidence", ()).data[:1]
     for name in rng.sample(longer, 5):
         data = broken(rng, name, ()).data
         yield f"{name} cut", data[:rng.choice((1, rng.randrange(1, len(data))))]

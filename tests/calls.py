@@ -8,18 +8,18 @@ import struct
 
 from runfiles import (TOP, Minds, Run, add_iteration, bits, heading_bytes, high_rows, largest_t, put, some_rows,
                       table_rows)
-
-PLACES = 13
+from steprules import PLACES, graded, size_refusal, voted
 
 
 class Request:
     """The bytes of one request, what it is for, and what is known of its reply beforehand, if anything.
 
-    With `as_before` the reply must be that of the request before it.
+    With `as_before` the reply must be that of the request before it. `shows` has the names of what arises in it.
     """
 
-    def __init__(self, data, about, refusal=None, reply=None, as_before=False):
+    def __init__(self, data, about, refusal=None, reply=None, as_before=False, shows=()):
         self.data, self.about, self.refusal, self.reply, self.as_before = data, about, refusal, reply, as_before
+        self.shows = shows
 
 
 class Call:
@@ -94,6 +94,18 @@ class Column(Call):
 
     def to_bytes(self):
         return bytes((self.kind, len(self.rows), self.t)) + packed(self.rows)
+
+    def known(self):
+        return column_line(self.kind, self.rows, self.t)
+
+
+def column_line(kind, rows, t):
+    """The reply to a vote or a grade over these rows. A refused one gives zeros."""
+    refusal = size_refusal(len(rows), t)
+    if kind == 1:
+        return f"vote {refusal} {0 if refusal else voted(rows, t)}"
+    row, confidence, support = (0, 0, 0) if refusal else graded(rows, t)
+    return f"grade {refusal} {row} {confidence} {support}"
 
 
 class Vote(Column):

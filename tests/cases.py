@@ -14,23 +14,56 @@ def column(kind, rows, t):
 
 
 def votes_and_grades():
+    """Behind the refusal of a grade come row, confidence and support."""
     yield column(1, [6, 6, 0, 6], 1), "vote 0 6"
     yield column(1, [6, 6, 0, 0], 1), "vote 0 0"
     # n = 7, t = 2: support 2, 3, 4, 5.
-    yield column(2, [8, 0, 0, 8, 0, 0, 0], 2), "grade 0 0 0"
-    yield column(2, [8, 0, 8, 8, 0, 0, 0], 2), "grade 0 8 1"
-    yield column(2, [8, 0, 8, 8, 0, 8, 0], 2), "grade 0 8 1"
-    yield column(2, [8, 0, 8, 8, 8, 8, 0], 2), "grade 0 8 2"
+    yield column(2, [8, 0, 0, 8, 0, 0, 0], 2), "grade 0 0 0 2"
+    yield column(2, [8, 0, 8, 8, 0, 0, 0], 2), "grade 0 8 1 3"
+    yield column(2, [8, 0, 8, 8, 0, 8, 0], 2), "grade 0 8 1 4"
+    yield column(2, [8, 0, 8, 8, 8, 8, 0], 2), "grade 0 8 2 5"
     # n = 5, t = 1: support 3 is enough, though n - t is 4.
-    yield column(2, [8, 8, 8, 0, 0], 1), "grade 0 8 2"
+    yield column(2, [8, 8, 8, 0, 0], 1), "grade 0 8 2 3"
     # n = 3, t = 0: support 1 is enough.
-    yield column(2, [0, 8, 0], 0), "grade 0 8 2"
-    # Leader 4 in case S, as boxes 1, 2 and 3 grade it.
-    yield column(2, [20, 0, 0, 0], 1), "grade 0 0 0"
-    yield column(2, [20, 0, 0, 20], 1), "grade 0 20 1"
-    # 0 is no row that can win, and on a tie the lowest wins.
-    yield column(2, [0, 0, 0, 0, 0, 9, 9], 1), "grade 0 9 1"
-    yield column(2, [7, 5, 7, 5, 0], 1), "grade 0 5 1"
+    yield column(2, [0, 8, 0], 0), "grade 0 8 2 1"
+    # Leader 4 in case S, as boxes 1 and 3 grade it, and as box 2 does.
+    yield column(2, [20, 0, 0, 0], 1), "grade 0 0 0 1"
+    yield column(2, [20, 0, 0, 20], 1), "grade 0 20 1 2"
+    # 0 is no row that can win, however many places it has, and on a tie the lowest wins.
+    yield column(2, [0, 0, 0, 0, 0, 9, 9], 1), "grade 0 9 1 2"
+    yield column(2, [7, 5, 7, 5, 0], 1), "grade 0 5 1 2"
+
+
+def supports():
+    """Supports that no threshold asks for, and grades that are refused."""
+    # Where every row is 0 there is no support.
+    yield column(2, [0], 0), "grade 0 0 0 0"
+    yield column(2, [0, 0, 0, 0], 1), "grade 0 0 0 0"
+    yield column(2, [0] * 13, 4), "grade 0 0 0 0"
+    # As many as there are.
+    yield column(2, [8], 0), "grade 0 8 2 1"
+    yield column(2, [8] * 13, 4), "grade 0 8 2 13"
+    # A lower row and the last row stand less often than 8, which stands four times.
+    yield column(2, [1, 8, 8, 1, 8, 8, 1], 2), "grade 0 8 1 4"
+    # Three rows stand twice each. With t = 1 that is enough, with t = 2 it is not, and is stated all the same.
+    yield column(2, [9, 7, 8, 8, 7, 9], 1), "grade 0 7 1 2"
+    yield column(2, [9, 7, 8, 8, 7, 9, 0], 2), "grade 0 0 0 2"
+    # No row stands twice.
+    yield column(2, [4, 3, 2, 5], 1), "grade 0 0 0 1"
+    yield column(2, [3, 2, 4], 0), "grade 0 2 2 1"
+    # A refused grade has no support, though one row stands everywhere.
+    for rows, t, refusal in (([], 0, 4), ([8] * 14, 4, 4), ([8] * 14, 255, 4), ([8] * 4, 2, 5), ([8] * 12, 4, 5),
+                             ([8], 1, 5), ([8] * 13, 255, 5)):
+        yield column(2, rows, t), f"grade {refusal} 0 0 0"
+
+
+def confidences():
+    """t, a support, and its confidence. Neither need be one that some number of boxes has."""
+    for t, support, due in ((2, 2, 0), (2, 3, 1), (2, 4, 1), (2, 5, 2), (0, 0, 0), (0, 1, 2), (255, 255, 0),
+                            (127, 255, 2), (127, 254, 1), (100, 200, 1), (100, 201, 2),
+                            # 2t + 1 is 257 here, which is 1 in 8 bits.
+                            (128, 1, 0), (128, 128, 0), (128, 129, 1), (128, 255, 1)):
+        yield bytes((34, support, t)), f"confidence {due}"
 
 
 def choices():
@@ -81,7 +114,8 @@ def two_boxes():
     # Before the first iteration no message can have been sent.
     yield (iteration(2, 0, 0, 0, 1, [5, 6], [], Table(2)), state_line("iteration", 14, 2, 0, 0, 0, 1, [5, 6], []))
     # Box 1 stands on its own list: it sends 5, sends on 6 alone and has no vote. Box 2 sends 6, then 5 and 6, then 6.
-    yield steps_bytes(2, 0, 0, [5, 6], [1], Table(2).rows), steps_line(6, [0, 6, 0, 6], [0, 2, 0, 2])
+    # That vote is the only one, so leader 2 has support 1 and leader 1 none.
+    yield steps_bytes(2, 0, 0, [5, 6], [1], Table(2).rows), steps_line(6, [0, 6, 0, 6], [0, 2, 0, 2], [0, 1, 0, 1])
 
 
 def at_the_limit():
@@ -136,25 +170,71 @@ def tests():
 
 
 def steps():
-    """Both iterations of case S: box 2 alone grades leader 4 with a row, at confidence 1."""
+    """Both iterations of case S: box 2 alone grades leader 4 with a row, at confidence 1. Only box 1 votes for leader
+    4, and box 4 says the same to box 2 alone: supports 1, 2, 1. For leaders 1, 2 and 3 the three sound boxes vote, and
+    box 4 says nothing: support 3 everywhere."""
     rows, firm = [10, 20, 30, 0, 10, 20, 30, 20, 10, 20, 30, 0], [2, 2, 2, 0, 2, 2, 2, 1, 2, 2, 2, 0]
-    first = steps_line(75, rows, firm)
+    first = steps_line(75, rows, firm, [3, 3, 3, 1, 3, 3, 3, 2, 3, 3, 3, 1])
     table = case_s_table().rows
     yield steps_bytes(4, 1, 8, [10, 20, 30], [], table), first
     # A faulty box's row and list, stray bits and rows above n count for nothing.
     yield steps_bytes(4, 1, 0xfff8, [10, 20, 30, 7, TANK], [16, 0x8000, 0xfff0, 15, 1], table), first
-    again = steps_line(63, [10, 20, 10, 0] * 3, [2, 2, 2, 0] * 3)
+    # Box 4 is then on every list, and nobody hears anything about it.
+    again = steps_line(63, [10, 20, 10, 0] * 3, [2, 2, 2, 0] * 3, [3, 3, 3, 0] * 3)
     yield steps_bytes(4, 1, 8, [10, 20, 10], [8, 8, 8], Table(4).rows), again
     # A box alone has nobody to send to: it hears itself, or does not, or has no row, and there is no message.
-    yield steps_bytes(1, 0, 0, [5], [0], [0, 0, 0]), steps_line(0, [5], [2])
-    yield steps_bytes(1, 0, 0, [5], [1], [0, 0, 0]), steps_line(0, [], [])
-    yield steps_bytes(1, 0, 0, [0], [0], [9, 9, 9]), steps_line(0, [], [])
+    yield steps_bytes(1, 0, 0, [5], [0], [0, 0, 0]), steps_line(0, [5], [2], [1])
+    yield steps_bytes(1, 0, 0, [5], [1], [0, 0, 0]), steps_line(0, [], [], [])
+    yield steps_bytes(1, 0, 0, [0], [0], [9, 9, 9]), steps_line(0, [], [], [])
     # A faulty box alone: nobody sends and nobody grades.
-    yield steps_bytes(1, 0, 1, [5], [0], [9, 9, 9]), steps_line(0, [], [])
+    yield steps_bytes(1, 0, 1, [5], [0], [9, 9, 9]), steps_line(0, [], [], [])
     for n, t, count, refusal in ((0, 0, 0, 4), (14, 0, 144, 4), (256, 0, 144, 4), (TANK + 4, 1, 144, 4),
                                  (TOP, 255, 0, 4), (4, 2, 144, 5), (4, 255, 143, 5), (3, 1, 63, 5), (4, 1, 143, 11),
                                  (4, 1, 145, 11), (4, 1, 0, 11)):
         yield steps_bytes(n, t, 8, [10, 20, 30], [], [0] * count), steps_refused(refusal)
+
+
+def third(n, *said):
+    """A table with nothing but these rows of step 3: sender, receiver and leader, from 1, and the row."""
+    table = Table(n)
+    for sender, receiver, leader, row in said:
+        table.third(sender - 1, receiver - 1, leader - 1, row)
+    return table.rows
+
+
+def echoes():
+    """n = 7, t = 2, boxes 6 and 7 faulty, rows 10, 0, 30, 40, 50. Box 4 lists boxes 6 and 7, box 5 lists box 7. The
+    five sound boxes vote for leaders 1, 3, 4 and 5: support 5 and what boxes 6 and 7 are heard to add. On leader 2,
+    who has no row, nobody has a vote, and so it is with leaders 6 and 7, who send none.
+
+    Leader 1: both say 10 to box 1, which makes 7; one says 10 and one 99 to box 2, which makes 6; they say nothing to
+    box 3; both say 10 to boxes 4 and 5, but box 4 hears neither and box 5 hears box 6 alone. Leader 2: both say 77 to
+    box 1, one says 77 and one 66 to box 2, both say 77 to boxes 4 and 5. Leader 3: both say 31 to box 1.
+
+    Step 1 has 4 senders of one row, steps 2 and 3 have 5 of 4 rows, each to 6 others: 24, 120 and 120."""
+    table = third(7, (6, 1, 1, 10), (7, 1, 1, 10), (6, 2, 1, 10), (7, 2, 1, 99), (6, 4, 1, 10), (7, 4, 1, 10),
+                  (6, 5, 1, 10), (7, 5, 1, 10), (6, 1, 2, 77), (7, 1, 2, 77), (6, 2, 2, 77), (7, 2, 2, 66),
+                  (6, 4, 2, 77), (7, 4, 2, 77), (6, 5, 2, 77), (7, 5, 2, 77), (6, 1, 3, 31), (7, 1, 3, 31))
+    heard = [7, 2, 5, 5, 5, 0, 0] + [6, 1, 5, 5, 5, 0, 0] + [5, 0, 5, 5, 5, 0, 0] * 2 + [6, 1, 5, 5, 5, 0, 0]
+    yield (steps_bytes(7, 2, 96, [10, 0, 30, 40, 50], [0, 0, 0, 96, 64], table),
+           steps_line(264, [10, 0, 30, 40, 50, 0, 0] * 5, [2, 0, 2, 2, 2, 0, 0] * 5, heard))
+
+
+def unusual_steps():
+    """More than t faulty boxes, and a sound box on a list: the support of a sound leader may be anything."""
+    # n = 4, t = 1, boxes 3 and 4 faulty. Two places are too few for a vote, so step 3 has what the faulty boxes say
+    # alone: both say 10 to box 1 about leader 1, and box 3 says it to box 2. Messages: 6 in step 1, 12 in step 2.
+    table = third(4, (3, 1, 1, 10), (4, 1, 1, 10), (3, 2, 1, 10))
+    yield (steps_bytes(4, 1, 12, [10, 20], [], table),
+           steps_line(18, [10], [1], [2, 0, 0, 0, 1, 0, 0, 0]))
+    # The same with box 2 faulty too: one box is left, hears 10 from three others and has no vote of its own.
+    table = third(4, (2, 1, 1, 10), (3, 1, 1, 10), (4, 1, 1, 10), (2, 2, 1, 10), (2, 1, 2, 5))
+    yield steps_bytes(4, 1, 14, [10], [], table), steps_line(6, [10], [2], [3, 1])
+    # n = 4, t = 1, nobody faulty, box 1 lists box 2. It hears nobody but boxes 3 and 4 about leader 2 and has no vote
+    # on it; the others hear 20 three times. So leader 2 has support 2 with box 1 and 3 with the others. Leaders 1, 3
+    # and 4 have 3 with box 1 and 4 with the others. Messages: 12 in step 1, 9 + 36 in step 2 and again in step 3.
+    yield (steps_bytes(4, 1, 0, [10, 20, 30, 40], [2], Table(4).rows),
+           steps_line(102, [10, 20, 30, 40] * 4, [2, 1, 2, 2] + [2, 2, 2, 2] * 3, [3, 2, 3, 3] + [4, 3, 4, 4] * 3))
 
 
 def line(kind, length, word, numbers):
@@ -224,7 +304,7 @@ def files():
 
 
 def all_cases():
-    for part in (votes_and_grades, choices, sizes, iterations, two_boxes, at_the_limit, wide_states, constants, tests,
-                 steps, lines, parts, files):
+    for part in (votes_and_grades, supports, confidences, choices, sizes, iterations, two_boxes, at_the_limit,
+                 wide_states, constants, tests, steps, echoes, unusual_steps, lines, parts, files):
         for data, line_due in part():
             yield Request(data, "written by hand", None, line_due)

@@ -1,4 +1,4 @@
-"""The calls of kinds 8 to 20 in docs/REQUESTS.md, drawn from a seed, and their edges.
+"""The calls of kinds 8 to 20 and 34 in docs/REQUESTS.md, drawn from a seed, and their edges.
 
 Of most of them the rules give the whole reply at once, so both programs are held to it.
 """
@@ -9,6 +9,7 @@ from pathlib import Path
 from calls import PLACES, Call, Iteration, Request, packed, state_line, wrong_t
 from edges import end_of, silent_listing, silent_run
 from runfiles import DAMAGES, KINDS, OF_LENGTH, TOP, Table, bits, damage_choices, largest_t, some_rows, table_rows
+from steprules import Cast, confidence_at, size_refusal
 
 EXAMPLES = Path(__file__).resolve().parent.parent / "examples"
 MOST_LENT, MOST_FILE = 5000, 200000
@@ -78,7 +79,7 @@ class Sizes(Call):
         return struct.pack(">BQB", 10, self.n, self.t)
 
     def known(self):
-        return reply("sizes", 4 if not 1 <= self.n <= PLACES else 5 if 3 * self.t >= self.n else 0)
+        return reply("sizes", size_refusal(self.n, self.t))
 
 
 class Test(Call):
@@ -145,6 +146,34 @@ def test_edges():
             yield asked(Stray, "edge of a stray bit", n=n, set=boxes)
 
 
+# The confidence of a support.
+
+class Confidence(Call):
+    """Any support and any t: half of them where some n has such a support and such a t."""
+
+    def __init__(self, rng):
+        self.support, self.t = rng.choice(((rng.randrange(PLACES + 1), rng.randrange(largest_t(PLACES) + 1)),
+                                           (rng.randrange(256), rng.randrange(256))))
+
+    @classmethod
+    def answers(cls):
+        return [0, 1, 2]
+
+    def to_bytes(self):
+        return bytes((34, self.support, self.t))
+
+    def known(self):
+        return reply("confidence", confidence_at(self.support, self.t))
+
+
+def confidence_edges(rng):
+    """For every t the supports around t and around 2t, the least, the most, 13, and one that is drawn."""
+    for t in range(256):
+        supports = {0, t - 1, t, t + 1, 2 * t - 1, 2 * t, 2 * t + 1, 2 * t + 2, PLACES, 255, rng.randrange(256)}
+        for support in sorted(supports & set(range(256))):
+            yield asked(Confidence, "edge of a confidence", support=support, t=t)
+
+
 # Steps 1 to 4.
 
 class Steps(Iteration):
@@ -177,14 +206,21 @@ class Steps(Iteration):
         self.n = rng.choice(WRONG_N)
 
     def to_bytes(self):
-        lead = struct.pack(">BQBH13Q13H", 14, self.n, self.t, self.faulty, *self.rows, *self.lists)
-        return lead + struct.pack(">H", len(self.table)) + packed(self.table)
+        return steps_bytes(self.n, self.t, self.faulty, self.rows, self.lists, self.table)
+
+    def known(self):
+        refusal = size_refusal(self.n, self.t)
+        if refusal == 0 and len(self.table) != table_rows(self.n):
+            refusal = 11
+        if refusal:
+            return steps_refused(refusal)
+        cast = Cast(self.n, self.t, self.faulty, self.rows, self.lists, self.table)
+        return steps_line(cast.messages, *cast.parts())
 
 
-def steps_line(messages, rows, confidences):
-    places = PLACES * PLACES
-    return reply("steps", 0, messages, *rows, *[0] * (places - len(rows)), *confidences,
-                 *[0] * (places - len(confidences)))
+def steps_line(messages, rows, confidences, supports):
+    places = [part + [0] * (PLACES * PLACES - len(part)) for part in (rows, confidences, supports)]
+    return reply("steps", 0, messages, *sum(places, []))
 
 
 def steps_bytes(n, t, faulty, rows, lists, table):
@@ -194,20 +230,20 @@ def steps_bytes(n, t, faulty, rows, lists, table):
 
 
 def known_steps(rng):
-    """Where no box is faulty and no list has a box, all boxes hear the same. Each row that is not 0 then has
-    confidence 2, and all n send it on to the n - 1 others, twice. Where every box is on every list, step 1 alone sends
-    rows."""
+    """Where no box is faulty and no list has a box, all boxes hear the same. Each row that is not 0 then has support n
+    and confidence 2, and all n send it on to the n - 1 others, twice. Where every box is on every list, step 1 alone
+    sends rows."""
     for n in range(1, PLACES + 1):
         for t in range(largest_t(n) + 1):
             rows = [rng.choice((0, row, row)) for row in rng.choice((some_rows(rng, n), [TOP] * n, [2**32] * n))]
             table = [rng.randrange(TOP + 1)] * table_rows(n)
             first = (n - 1) * (n - rows.count(0))
-            firm = [2 if row else 0 for row in rows]
+            firm, heard = [2 if row else 0 for row in rows], [n if row else 0 for row in rows]
             stray = 2**16 - (1 << n)
             yield Request(steps_bytes(n, t, stray, rows, [stray] * PLACES, table), "steps without faults", 0,
-                          steps_line(first + 2 * n * first, rows * n, firm * n))
+                          steps_line(first + 2 * n * first, rows * n, firm * n, heard * n))
             yield Request(steps_bytes(n, t, 0, rows, [2**16 - 1] * PLACES, table), "steps, all listed", 0,
-                          steps_line(first, [], []))
+                          steps_line(first, [], [], []))
 
 
 def steps_with_rubbish(rng):
@@ -239,7 +275,7 @@ def steps_edges(rng):
 
 
 def steps_refused(refusal):
-    return reply("steps", refusal, *[0] * (1 + 2 * PLACES * PLACES))
+    return reply("steps", refusal, *[0] * (1 + 3 * PLACES * PLACES))
 
 
 # Lines.
@@ -548,6 +584,7 @@ class NoRun(Call):
 
 def all_edges(rng):
     yield from test_edges()
+    yield from confidence_edges(rng)
     yield from known_steps(rng)
     yield from steps_with_rubbish(rng)
     yield from steps_edges(rng)

@@ -9,6 +9,8 @@ Boxes count from 0 here; box k of a listing is place k - 1.
 import struct
 from collections import Counter
 
+from steprules import most_often
+
 TOP = 2**64 - 1
 
 
@@ -43,6 +45,9 @@ class Table:
 
     def third(self, sender, receiver, leader, row):
         self.rows[self.n**2 + self.n**3 + (sender * self.n + receiver) * self.n + leader] = row
+
+    def third_row(self, sender, receiver, leader):
+        return self.rows[self.n**2 + self.n**3 + (sender * self.n + receiver) * self.n + leader]
 
     def parts_of(self, sender):
         """Where this sender's rows stand: the first place and the number of places, for each step."""
@@ -99,14 +104,6 @@ def case_s_table():
 
 
 # The rules, as far as a liar needs them.
-
-def most_often(rows):
-    counts = Counter(row for row in rows if row)
-    if not counts:
-        return 0, 0
-    most = max(counts.values())
-    return min(row for row, count in counts.items() if count == most), most
-
 
 class Minds:
     """What every box would hold if it followed the rules, the faulty ones too: those may follow them for a while."""

@@ -1,5 +1,5 @@
-"""Two small streams, of kinds 1 to 20 and of kinds 21 to 33: for each kind a request that passes, and one that is
-refused.
+"""Two small streams, of kinds 1 to 20 and 34 and of kinds 21 to 33: for each kind a request that passes, and one that
+is refused.
 
 A call that refuses nothing gets one request with each of its answers. No run and no text have one request alone.
 """
@@ -76,6 +76,12 @@ def files():
     yield bytes((20,)), None
 
 
+def confidences():
+    """t = 2: the supports t, 2t and 2t + 1, which have confidence 0, 1 and 2."""
+    for support in (2, 4, 5):
+        yield bytes((34, support, 2)), None
+
+
 def writers_and_lines():
     yield struct.pack(">BBBHBH", 21, 3, 0, 4, 3, 35) + packed([5, 6, 0]), 0
     yield struct.pack(">BBBHBH", 21, 3, 0, 4, 2, 35) + packed([5, 0]), 11
@@ -143,7 +149,7 @@ def requests_of(*parts):
 
 
 def all_requests():
-    return requests_of(first_seven, constants_and_tests, steps_and_text, files)
+    return requests_of(first_seven, constants_and_tests, steps_and_text, files, confidences)
 
 
 def text_requests():
