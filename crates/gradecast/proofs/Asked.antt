@@ -158,7 +158,8 @@ module _
         -- what it said is the leader's row then, and not 0
         said-row : (out : mustCount (seat .hall) own k ≡ false) → own ≡ getD rows k 0
         said-row out =
-            let trust = trusted out in own-cell _ e k l ∙ sound-voted (trust .calm) rows table i k this-box (trust .leader)
+            let trust = trusted out in
+            own-cell _ e k l ∙ sound-voted (trust .calm) rows table i k this-box (trust .leader)
 
         not-zero : mustCount (seat .hall) own k ≡ false → getD rows k 0 ≡ 0 → ⊥
         not-zero out z =

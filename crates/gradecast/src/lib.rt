@@ -661,13 +661,12 @@ fn all_steps(settings: Settings, rows: &[u64; 13], lists: &[u16; 13], table: &[u
 {
     let liars = faulty_boxes(settings.n, settings.faulty);
     let odd = odd_boxes(settings.faulty, lists);
-    let asked = asked_leaders(settings, liars, odd);
     let sound = (settings.n - liars) as u8;
     let hall = Hall {
         settings,
         sound,
         odd,
-        asked,
+        asked: asked_leaders(settings, liars, odd),
     };
     let mut second = [0u64; 169];
     step1(settings, rows, lists, table, &mut second);
@@ -686,12 +685,11 @@ fn all_steps(settings: Settings, rows: &[u64; 13], lists: &[u16; 13], table: &[u
         &mut held,
         &mut supports,
     );
-    let confidences = confidences_of(settings, &supports);
     Cast {
         refusal: 0,
         sent,
         rows: held,
-        confidences,
+        confidences: confidences_of(settings, &supports),
         supports,
     }
 }

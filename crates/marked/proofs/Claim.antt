@@ -135,13 +135,13 @@ pub marked-hold : Hold marked
 unfolding sum count any build find member setOf places support before best most firstOf outside tooMany stray sound
     soundZero tableRows carried voteOf twoRows supportOf confidenceAt confidenceOf gradedRow counted chosenRow
     voteRefusal sizeRefusal unless voteReply gradeReply place1 placeFrom place2 place3 sends hears heard1 heard2
-    column2 voted heard3 column3 supportFor confidence gradeRow sentTo messages entry gradedRows confidences newRow newList
-    nextRun startRow startRefusal startRun startReply badEntry badPlace tooManySent iterateRefusal iterateReply
-    after largestT number hasMark versionOf nOf tByte faultyOf tOf headingBytes rowFrom headingRow tableRow
-    headingTests headingRefusal headingOf nothingRead headingReply tableTests tableRefusal tens decimal field fields
-    lineOf orElse tableBytes tableBegins bytesOf tableOf refusedTable heading rowsOf replyAfter stateAfter
-    refusedStart refusedAt due goesOn runLine atLine lastLine boxLine boxLines endedBy passed doneOf iterationLines
-    refusedLater endsWith startLine firstLines outcomeOf listingOf zeros
+    column2 voted heard3 column3 supportFor confidence gradeRow sentTo messages entry gradedRows confidences newRow
+    newList nextRun startRow startRefusal startRun startReply badEntry badPlace tooManySent iterateRefusal
+    iterateReply after largestT number hasMark versionOf nOf tByte faultyOf tOf headingBytes rowFrom headingRow
+    tableRow headingTests headingRefusal headingOf nothingRead headingReply tableTests tableRefusal tens decimal
+    field fields lineOf orElse tableBytes tableBegins bytesOf tableOf refusedTable heading rowsOf replyAfter
+    stateAfter refusedStart refusedAt due goesOn runLine atLine lastLine boxLine boxLines endedBy passed doneOf
+    iterationLines refusedLater endsWith startLine firstLines outcomeOf listingOf zeros
 marked-hold =
     refl ⨾ refl ⨾ refl ⨾ refl ⨾ refl ⨾ refl ⨾ refl ⨾ refl ⨾ refl ⨾ refl ⨾ refl ⨾ refl ⨾ refl ⨾ refl ⨾ refl ⨾ refl ⨾
     refl ⨾

@@ -14,7 +14,7 @@ use Rattle.gradecast.proofs.all_steps.Tie as tie
 
 -- back from each call to the one before
 abbrev hall-made : tie.After-step1 → tie.After-asked-leaders
-hall-made c = c .before .before .before
+hall-made c = c .before .before
 
 abbrev step1-done : tie.After-third → tie.After-step1
 step1-done c = c .before .before .before .before
@@ -34,24 +34,27 @@ start c = c .before .before
 
 -- no more than n boxes are faulty
 few : (c : tie.After-faulty-boxes) → c .faulty-boxes .result ≤ start c .args .settings .n
-few c = let s = start c .args .settings in omega (arith, c .faulty-boxes .ensures, count-le (s .n) (member (s .faulty)))
+few c =
+    let s = start c .args .settings in
+    omega (arith, c .faulty-boxes .ensures, count-le (s .n) (member (s .faulty)))
 
 -- what all boxes go by is as it must be
 prepared : (c : tie.After-asked-leaders) →
-    let a = start (c .before .before) .args in
+    let odd = c .before .before in
+    let a = start (odd .before) .args in
     Prepared
     (record {
       settings = a .settings;
-      sound = a .settings .n - c .before .before .faulty-boxes .result;
-      odd = c .before .odd-boxes .result;
+      sound = a .settings .n - odd .before .faulty-boxes .result;
+      odd = odd .odd-boxes .result;
       asked = c .asked-leaders .result;
     })
     (a .lists .now)
     (a .table .now)
 prepared c =
-    let faulty = c .before .before in
+    let faulty = c .before .before .before in
     let p = start faulty .pre in
-    let odd = c .before .odd-boxes .ensures in
+    let odd = c .before .before .odd-boxes .ensures in
     record {
       ready = p .0;
       size = p .1;
@@ -66,14 +69,14 @@ faulty-boxes-requires c κs = search needs
 odd-boxes-requires : tie.Need-odd-boxes-requires
 odd-boxes-requires c κs = search needs
 
-asked-leaders-requires : tie.Need-asked-leaders-requires
-asked-leaders-requires c κs = search needs
-
 sub-sound : tie.Need-sub-sound
-sub-sound c = few (c .before .before .before)
+sub-sound c = few (c .before .before)
 
 cast-sound : tie.Need-cast-sound
-cast-sound c = omega (arith, start (c .before .before .before) .pre .1 .high)
+cast-sound c = omega (arith, start (c .before .before) .pre .1 .high)
+
+asked-leaders-requires : tie.Need-asked-leaders-requires
+asked-leaders-requires c κs = search needs
 
 slice-aggregate-step1 : tie.Need-slice-aggregate-step1
 slice-aggregate-step1 c = search needs
@@ -135,9 +138,9 @@ all-steps-spec =
     (tie.spec
     faulty-boxes-requires
     odd-boxes-requires
-    asked-leaders-requires
     sub-sound
     cast-sound
+    asked-leaders-requires
     slice-aggregate-step1
     step1-requires
     slice-aggregate-step3

@@ -1,5 +1,5 @@
--- `gradecast::confidences_of` meets its contract: after p turns the first p places have the confidences that the supports
--- give. What is left of n * n falls. Assumes nothing.
+-- `gradecast::confidences_of` meets its contract: after p turns the first p places have the confidences that the
+-- supports give. What is left of n * n falls. Assumes nothing.
 use mathlib.Core.Path.{_∙_}
 use Prim.Native.Nat.{_*_, _-_, _<_}
 use native.Mathlib.Omega.{arith}

@@ -1,6 +1,6 @@
 -- `gradecast::grade_on` meets its contract: the test is whether leader k must be counted, and the column of one that
--- must lies from k * n to k * n + n. Of any other the row is the box's own word and the support the sound boxes with the
--- echoes, which together fit a byte. Assumes nothing.
+-- must lies from k * n to k * n + n. Of any other the row is the box's own word, and the support is the sound boxes
+-- and the echoes, which together fit a byte. Assumes nothing.
 use mathlib.Core.Path.{_≡_, sym, ap, _∙_}
 use mathlib.Core.Bool.{true}
 use Prim.Native.Nat.{_+_, _*_, _≤_}

@@ -8,7 +8,8 @@ use native.Mathlib.Omega.{arith}
 use lib.ListN.{length, getD}
 use Rattle.gradecast.specs.Inside.{thirdFrom, SendersTo, oddTo, PlainHeard, echoesTo, forLeaders}
 use Rattle.gradecast.proofs.Columns.{senders-turn}
-use Rattle.gradecast.proofs.Echoes.{echoes-begin, echoes-few, echoes-length, echoes-turn, echoes-skip, echoes-end}
+use Rattle.gradecast.proofs.Echoes.{echoes-begin, echoes-few, echoes-length}
+use Rattle.gradecast.proofs.Echoes.{echoes-turn, echoes-skip, echoes-end}
 use Rattle.gradecast.proofs.Plain.{plain-turn, plain-stays}
 use borrow.Author.Needs.{needs}
 use Rattle.gradecast.proofs.hear_third.Statement.{statement}
@@ -34,10 +35,10 @@ small : (c : tie.At-loop Inv-loop μ-loop) → entry c .args .seat .hall .settin
 small c = entry c .pre .0 .prepared .size .high
 
 mul-list : tie.Need-mul-list Inv-loop μ-loop
-mul-list c = let p = c .before .before .before .pre in omega (arith, p .0 .below, p .0 .prepared .size .high)
+mul-list c = let p = c .before .before .before .pre .0 in omega (arith, p .below, p .prepared .size .high)
 
 element-copy-out-list : tie.Need-element-copy-out-list Inv-loop μ-loop
-element-copy-out-list c = let p = c .before .before .before .pre in omega (arith, p .0 .below, p .0 .prepared .size .high)
+element-copy-out-list c = let p = c .before .before .before .pre .0 in omega (arith, p .below, p .prepared .size .high)
 
 loop-holds : tie.Need-loop-holds Inv-loop μ-loop
 loop-holds c =

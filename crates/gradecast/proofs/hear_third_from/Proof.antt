@@ -1,6 +1,6 @@
--- `gradecast::hear_third_from` meets its contract: after k turns what the box hears from j about the leaders below k is
--- put down, the other senders' rows stand as they did, and the echoes of the leaders below k are one more where j says
--- what the box said itself. They were at most n, so one more fits. What is left of n falls. Assumes nothing.
+-- `gradecast::hear_third_from` meets its contract: after k turns what the box hears from j about the leaders below k
+-- is put down, the other senders' rows stand as they did, and the echoes of the leaders below k are one more where j
+-- says what the box said itself. They were at most n, so one more fits. What is left of n falls. Assumes nothing.
 use mathlib.Core.Path.{_≡_, sym, ap, ap₂, _∙_, subst}
 use mathlib.Core.Bool.{cond}
 use mathlib.Core.List.{List}
