@@ -64,8 +64,8 @@ front-stays n f xs l h =
     ∙ sym (append-snoc (build n f) (f n) (drop (suc n) xs)))
 
 -- and a front of such places
-pub front-same : (n : ℕ) (f : ℕ → ℕ) (xs : List ℕ) → n ≤ length xs → ((k : ℕ) → k < n → getD xs k 0 ≡ f k) →
-    xs ≡ front n f xs
+pub front-same : (n : ℕ) (f : ℕ → ℕ) (xs : List ℕ) → n ≤ length xs →
+    ((k : ℕ) → k < n → getD xs k 0 ≡ f k) → xs ≡ front n f xs
 front-same zero f xs l h = front-none f xs
 front-same (suc n) f xs l h =
     front-same n f xs (omega arith) (lower n h)
@@ -83,14 +83,16 @@ front-at n f xs k l =
     List·getD-append (build n f) (drop n xs) 0 k (omega (arith, length-build n f)) ∙ getD-build n f k 0 l
 
 -- the place behind the front stands as it did
-pub front-next : (n : ℕ) (f : ℕ → ℕ) (xs : List ℕ) → n < length xs → getD (front n f xs) n 0 ≡ getD xs n 0
+pub front-next : (n : ℕ) (f : ℕ → ℕ) (xs : List ℕ) → n < length xs →
+    getD (front n f xs) n 0 ≡ getD xs n 0
 unfolding front
 front-next n f xs l =
     ap (λ (zs : List ℕ). getD (build n f ++ zs) n 0) (drop-cons xs n 0 l)
     ∙ getD-at (build n f) (getD xs n 0) (drop (suc n) xs) 0 n (length-build n f)
 
 -- the same numbers make the same front
-pub front-ext : (n : ℕ) (f g : ℕ → ℕ) (xs : List ℕ) → ((k : ℕ) → k < n → f k ≡ g k) → front n f xs ≡ front n g xs
+pub front-ext : (n : ℕ) (f g : ℕ → ℕ) (xs : List ℕ) → ((k : ℕ) → k < n → f k ≡ g k) →
+    front n f xs ≡ front n g xs
 unfolding front
 front-ext n f g xs h = ap (λ (zs : List ℕ). zs ++ drop n xs) (build-ext n f g h)
 

@@ -68,22 +68,25 @@ faulty-asked s odd size few e =
     }
 
 -- what a box makes of a leader that is to be counted, and of one that is not
-module _ (to-count : Bool) (s : Settings) (counted : ℕ → List ℕ → ℕ) (plain : ℕ) (heard : List ℕ) (k : ℕ) where
-  -- the count
-  abbrev count-on : ℕ
-  count-on = counted (s .t) (columnOf (s .n) heard k)
+module _
+    (to-count : Bool) (s : Settings) (counted : ℕ → List ℕ → ℕ) (plain : ℕ) (heard : List ℕ) (k : ℕ)
+  where
+    -- the count
+    abbrev count-on : ℕ
+    count-on = counted (s .t) (columnOf (s .n) heard k)
 
-  pub on-asked : to-count ≡ true → onLeader to-count s counted plain heard k ≡ count-on
-  unfolding onLeader
-  on-asked h = cond-true count-on plain h
+    pub on-asked : to-count ≡ true → onLeader to-count s counted plain heard k ≡ count-on
+    unfolding onLeader
+    on-asked h = cond-true count-on plain h
 
-  pub on-other : to-count ≡ false → onLeader to-count s counted plain heard k ≡ plain
-  unfolding onLeader
-  on-other h = cond-false count-on plain h
+    pub on-other : to-count ≡ false → onLeader to-count s counted plain heard k ≡ plain
+    unfolding onLeader
+    on-other h = cond-false count-on plain h
 
-  -- v, where the count and the plain answer are both v
-  on-leader : {v : ℕ} → count-on ≡ v → (to-count ≡ false → plain ≡ v) → onLeader to-count s counted plain heard k ≡ v
-  on-leader a b = ⊎-elim (λ h. on-asked h ∙ a) (λ h. on-other h ∙ b h) (either to-count)
+    -- v, where the count and the plain answer are both v
+    on-leader : {v : ℕ} → count-on ≡ v → (to-count ≡ false → plain ≡ v) →
+        onLeader to-count s counted plain heard k ≡ v
+    on-leader a b = ⊎-elim (λ h. on-asked h ∙ a) (λ h. on-other h ∙ b h) (either to-count)
 
 -- what the box in this seat puts to its cells: nothing where it is faulty, and where it is sound what it makes
 module _ {seat : Seat} {lists table : List ℕ} (p : Seated seat lists table) where

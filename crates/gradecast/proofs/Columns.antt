@@ -138,7 +138,9 @@ module _
     (high : s .n ≤ 13) (size : length heard ≡ 169) (rows : List ℕ)
   where
     -- for any step: said holds what the sound boxes send, and so a box hears what they send about a leader
-    module _ (base : ℕ) (f : ℕ → ℕ → ℕ) (e : said ≡ cells (s .n) (ofSound (s .faulty) f)) (k : ℕ) (leader : k < s .n)
+    module _
+        (base : ℕ) (f : ℕ → ℕ → ℕ) (e : said ≡ cells (s .n) (ofSound (s .faulty) f))
+        (k : ℕ) (leader : k < s .n)
       where
         abbrev heard-of : ℕ → ℕ
         heard-of j = hears (getD lists i 0) j (sends (s .faulty) table j (placeFrom base (s .n) j i k) (f j k))

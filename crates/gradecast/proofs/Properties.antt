@@ -262,7 +262,9 @@ pub gradecast : {n t faulty : ℕ} {rows lists : List ℕ} → Fair n t faulty r
     Gradecast n t faulty rows lists table
 gradecast {n} {t} {faulty} {rows} {lists} fair table =
     record {
-      sound-leader = λ i k si sk. sound-firm calm rows table i k si sk (fair .none-zero k sk);
+      sound-leader =
+          λ i k si sk.
+          sound-firm calm rows table i k si sk (λ e. absurd (omega (arith, e, fair .none-zero k sk)));
       one-vote = votes-once calm rows table;
       one-row = counts-once calm rows table;
       firm-counts =

@@ -7,6 +7,7 @@ use Prim.Native.Nat.{_+_, _*_, _≤_}
 use native.Mathlib.Omega.{arith}
 use lib.ListN.{length}
 use Rattle.tally.specs.declared.Graded.{Graded}
+use Rattle.tally.specs.Tally.{supportOf, gradedRow}
 use Rattle.gradecast.specs.Inside.{mustCount}
 use Rattle.gradecast.proofs.Asked.{on-asked, on-other}
 use Rattle.gradecast.proofs.Columns.{column-fits, part-row, part-support}
@@ -70,8 +71,12 @@ add-support c = let p = c .before .before .before .before .pre in omega (arith, 
 
 returns-2 : tie.Need-returns-2
 returns-2 c =
+    let a = c .before .before .before .before .args in
     let not-counted = sym (c .before .before .must-count .ensures) ∙ c .before .if1 .left in
-    (sym (on-other _ _ _ _ _ _ not-counted), sym (on-other _ _ _ _ _ _ not-counted))
+    let support = a .hall .sound + a .echo in (
+      sym (on-other _ _ gradedRow (a .own) (a .heard .now) (a .k) not-counted),
+      sym (on-other _ (a .hall .settings) (λ t. supportOf) support (a .heard .now) (a .k) not-counted),
+    )
 
 pub grade-on-spec : {M : Type 1} → statement M
 grade-on-spec =
