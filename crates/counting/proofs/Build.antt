@@ -4,7 +4,7 @@ use mathlib.Core.Path.{_≡_, refl, sym, ap, ap₂, _∙_}
 use mathlib.Core.List.{List, [], _∷_, _++_, append-nil}
 use mathlib.Core.Logic.{⊎-elim}
 use Prim.Native.Nat.{ℕ, zero, suc, _+_, _≤_, _<_}
-use native.Mathlib.Nat.{le-refl, not-suc-le-zero, add-assoc}
+use native.Mathlib.Nat.{le-refl, not-suc-le-zero, zero-add, add-assoc}
 use native.Mathlib.Numerals.{add-one}
 use native.Mathlib.Omega.{arith}
 use lib.ListN.{length, getD, take, drop, set, length-append, length-drop, drop-of-length-le, List·getD-append}
@@ -63,14 +63,22 @@ front-stays n f xs l h =
     ∙ ap (λ (x : ℕ). build n f ++ x ∷ drop (suc n) xs) h
     ∙ sym (append-snoc (build n f) (f n) (drop (suc n) xs)))
 
--- and a front of such places
+-- and m such places
+pub front-more : (n m : ℕ) (f : ℕ → ℕ) (xs : List ℕ) → n + m ≤ length xs →
+    ((k : ℕ) → k < m → getD xs (n + k) 0 ≡ f (n + k)) → front n f xs ≡ front (n + m) f xs
+front-more n zero f xs l h = ap (λ (q : ℕ). front q f xs) (omega arith)
+front-more n (suc m) f xs l h =
+    front-more n m f xs (omega arith) (lower m h)
+    ∙ front-stays (n + m) f xs (omega arith) (h m (le-refl _))
+    ∙ ap (λ (q : ℕ). front q f xs) (omega arith)
+
+-- so a list whose first n numbers are f's is its own front
 pub front-same : (n : ℕ) (f : ℕ → ℕ) (xs : List ℕ) → n ≤ length xs →
     ((k : ℕ) → k < n → getD xs k 0 ≡ f k) → xs ≡ front n f xs
-front-same zero f xs l h = front-none f xs
-front-same (suc n) f xs l h =
-    front-same n f xs (omega arith) (lower n h)
-    ∙ front-stays n f xs l (h n (le-refl _))
-    ∙ ap (λ (m : ℕ). front m f xs) (add-one n)
+front-same n f xs l h =
+    front-none f xs
+    ∙ front-more 0 n f xs (omega arith) (λ k lk. rw zero-add (h k lk))
+    ∙ ap (λ (q : ℕ). front q f xs) (omega arith)
 
 pub front-length : (n : ℕ) (f : ℕ → ℕ) (xs : List ℕ) → n ≤ length xs → length (front n f xs) ≡ length xs
 unfolding front

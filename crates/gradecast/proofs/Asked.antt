@@ -24,9 +24,9 @@ use Rattle.gradecast.specs.declared.Seat.{Seat}
 use Rattle.gradecast.specs.Steps.{heard3}
 use Rattle.gradecast.specs.Cast.{ofSound, cells}
 use Rattle.gradecast.specs.Fair.{SoundBox, faultyBoxes}
-use Rattle.gradecast.specs.Inside.{RightSize, AllHeard, AllThird, saidBy, oddTo, columnOf, Trusted, AskedFor}
-use Rattle.gradecast.specs.Inside.{Seated, PutTo, onLeader, mustCount, voteBy, rowBy, supportBy}
-use Rattle.gradecast.specs.Inside.{echoesTo, echoesOf, SaidSecond, SaidThird}
+use Rattle.gradecast.specs.Inside.{RightSize, saidBy, columnOf, Calm, Trusted, AskedFor, Seated}
+use Rattle.gradecast.specs.Inside.{PutTo, onLeader, mustCount, saidHere, voteBy, rowBy, supportBy}
+use Rattle.gradecast.specs.Inside.{AllSecond, thirdFrom, AllThird, echoesTo, echoesOf, SaidSecond, SaidThird}
 use Rattle.gradecast.specs.Inside.{votesOfSound, rowsOfSound, supportsOfSound}
 use Rattle.gradecast.proofs.Boxes.{sound-not-faulty, not-faulty-sound}
 use Rattle.gradecast.proofs.Cells.{cells-at, put-skipped, put-same}
@@ -50,21 +50,24 @@ pub faulty-asked : (s : Settings) (odd : ℕ) → RightSize s → faultyBoxes (s
     odd ≡ s .faulty → AskedFor s odd (s .faulty)
 faulty-asked s odd size few e =
     λ lists o k l out.
-    let only : (j : ℕ) → oddTo 13 (s .faulty) lists j ≡ member (s .faulty) j =
-    λ j. sym (o j) ∙ ap (λ (set : ℕ). member set j) e
-    in
     record {
-      calm =
-          record {
-            tolerated = omega (arith, size .tolerated);
-            few = omega (arith, few);
-            none-listed =
-                λ i j si sj.
-                not-odd-listed (s .faulty) lists j (only j ∙ sound-not-faulty (s .faulty) j (sj .is-sound)) i
-                (omega (arith, si .below, size .high));
-          };
       leader = record { below = l; is-sound = not-faulty-sound (s .faulty) k out };
-      none-else = only;
+      few = omega (arith, few);
+      none-odd = λ j. sym (o j) ∙ ap (λ (set : ℕ). member set j) e;
+    }
+
+-- where a leader need not be asked all is calm
+calm-of : {s : Settings} {lists : List ℕ} {k : ℕ} → RightSize s → Trusted s lists k →
+    Calm (s .n) (s .t) (s .faulty) lists
+calm-of {s} {lists} size trust =
+    record {
+      tolerated = omega (arith, size .tolerated);
+      few = trust .few;
+      none-listed =
+          λ i j si sj.
+          not-odd-listed (s .faulty) lists j
+          (trust .none-odd j ∙ sound-not-faulty (s .faulty) j (sj .is-sound)) i
+          (omega (arith, si .below, size .high));
     }
 
 -- what a box makes of a leader that is to be counted, and of one that is not
@@ -75,9 +78,9 @@ module _
     abbrev count-on : ℕ
     count-on = counted (s .t) (columnOf (s .n) heard k)
 
-    pub on-asked : to-count ≡ true → onLeader to-count s counted plain heard k ≡ count-on
+    pub on-counted : to-count ≡ true → onLeader to-count s counted plain heard k ≡ count-on
     unfolding onLeader
-    on-asked h = cond-true count-on plain h
+    on-counted h = cond-true count-on plain h
 
     pub on-other : to-count ≡ false → onLeader to-count s counted plain heard k ≡ plain
     unfolding onLeader
@@ -86,7 +89,7 @@ module _
     -- v, where the count and the plain answer are both v
     on-leader : {v : ℕ} → count-on ≡ v → (to-count ≡ false → plain ≡ v) →
         onLeader to-count s counted plain heard k ≡ v
-    on-leader a b = ⊎-elim (λ h. on-asked h ∙ a) (λ h. on-other h ∙ b h) (either to-count)
+    on-leader a b = ⊎-elim (λ h. on-counted h ∙ a) (λ h. on-other h ∙ b h) (either to-count)
 
 -- what the box in this seat puts to its cells: nothing where it is faulty, and where it is sound what it makes
 module _ {seat : Seat} {lists table : List ℕ} (p : Seated seat lists table) where
@@ -133,7 +136,7 @@ module _
         on-leader to-count s counted plain heard k by-count with-none ∙ sym (of-sound (s .faulty) f i k is-sound)
 
     module _
-        (h : AllHeard (n * n) s (getD lists i 0) table said i heard)
+        (h : AllSecond seat lists table said heard)
         (e : SaidSecond s lists table said rows) (k : ℕ) (l : k < n)
       where
         -- its vote
@@ -142,9 +145,10 @@ module _
             made _ voteOf _ _ k (votes-heard s _ _ _ _ _ (p .prepared .size .high) size rows h e k l)
             (λ out.
             let trust = p .prepared .enough k l out in
+            let calm = calm-of (p .prepared .size) trust in
             own-cell _ e k l
-            ∙ heard1-is (trust .calm) rows table i k this-box (trust .leader)
-            ∙ sym (sound-voted (trust .calm) rows table i k this-box (trust .leader)))
+            ∙ heard1-is calm rows table i k this-box (trust .leader)
+            ∙ sym (sound-voted calm rows table i k this-box (trust .leader)))
 
     module _
         (h : AllThird seat lists table said heard)
@@ -158,11 +162,13 @@ module _
         trusted : mustCount (seat .hall) own k ≡ false → Trusted s lists k
         trusted out = p .prepared .enough k l (or-false-right (eqb own 0) (member (seat .hall .asked) k) out)
 
-        -- what it said is the leader's row then, and not 0
+        -- all is calm then
+        calm : mustCount (seat .hall) own k ≡ false → Calm n (s .t) (s .faulty) lists
+        calm out = calm-of (p .prepared .size) (trusted out)
+
+        -- what it said is the leader's row, and not 0
         said-row : (out : mustCount (seat .hall) own k ≡ false) → own ≡ getD rows k 0
-        said-row out =
-            let trust = trusted out in
-            own-cell _ e k l ∙ sound-voted (trust .calm) rows table i k this-box (trust .leader)
+        said-row out = own-cell _ e k l ∙ sound-voted (calm out) rows table i k this-box (trusted out .leader)
 
         not-zero : mustCount (seat .hall) own k ≡ false → getD rows k 0 ≡ 0 → ⊥
         not-zero out z =
@@ -173,12 +179,12 @@ module _
         rows-made =
             made _ gradedRow _ _ k (rows-heard s _ _ _ _ _ (p .prepared .size .high) size rows h e k l)
             (λ out.
-            let trust = trusted out in
-            said-row out ∙ sym (sound-firm (trust .calm) rows table i k this-box (trust .leader) (not-zero out) .1))
+            said-row out
+            ∙ sym (sound-firm (calm out) rows table i k this-box (trusted out .leader) (not-zero out) .1))
 
-        -- how often a sender that is faulty or listed says the leader's row, where only the faulty are so
+        -- the echoes are the faulty boxes that say the leader's row too
         echoes-are : (out : mustCount (seat .hall) own k ≡ false) →
-            echoesTo n seat (getD lists i 0) table said k ≡
+            echoesTo (saidHere seat said) (thirdFrom seat (getD lists i 0) table said) (seat .hall .odd) n k ≡
             count n
             (λ j. member (s .faulty) j && eqb (heard3 n (s .t) (s .faulty) rows lists table i j k) (getD rows k 0))
         unfolding echoesTo
@@ -187,19 +193,20 @@ module _
             (λ j lj.
             rw (
               p .prepared .odd-set j,
-              trusted out .none-else j,
+              trusted out .none-odd j,
               third-heard s lists table said heard i (p .prepared .size .high) size rows e k j l lj,
               said-row out,
             )
             refl)
 
         -- and the support
-        pub supports-made : {echoes : List ℕ} → echoes ≡ echoesOf seat (getD lists i 0) table said →
+        pub supports-made : {echoes : List ℕ} →
+            echoes ≡
+            echoesOf (saidHere seat said) (thirdFrom seat (getD lists i 0) table said) (seat .hall .odd) n n →
             supportBy seat said heard k echoes ≡ supportsOfSound s rows lists table i k
         supports-made counted =
             made _ (λ t. supportOf) _ _ k (supports-heard s _ _ _ _ _ (p .prepared .size .high) size rows h e k l)
             (λ out.
-            let trust = trusted out in
-            ap₂ _+_ (p .prepared .sound-boxes)
-            (echoes-at seat (getD lists i 0) table said (p .prepared .size .high) n counted k l ∙ echoes-are out)
-            ∙ sym (sound-support (trust .calm) rows table i k this-box (trust .leader) (not-zero out)))
+            ap₂ _+_ (p .prepared .all-sound)
+            (echoes-at _ _ _ (p .prepared .size .high) n counted k l ∙ echoes-are out)
+            ∙ sym (sound-support (calm out) rows table i k this-box (trusted out .leader) (not-zero out)))

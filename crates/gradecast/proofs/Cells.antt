@@ -3,7 +3,7 @@
 -- Assumes nothing.
 use mathlib.Core.Path.{_≡_, refl, sym, ap, ap₂, _∙_, subst}
 use mathlib.Core.List.{List}
-use Prim.Native.Nat.{ℕ, zero, suc, _+_, _*_, _/_, _%_, _≤_, _<_}
+use Prim.Native.Nat.{ℕ, _+_, _*_, _/_, _%_, _≤_, _<_}
 use native.Mathlib.Nat.{suc-mul, mul-le-mul-right}
 use native.Mathlib.Numerals.{add-one}
 use native.Mathlib.Omega.{arith}
@@ -12,7 +12,7 @@ use lib.ListN.{length, getD, take, drop, set, replicate, length-set, length-drop
 use lib.Seq.{getD-take, getD-drop, length-take-le}
 use Rattle.sizes.proofs.Laws.{square-le}
 use Rattle.counting.specs.Count.{build, front}
-use Rattle.counting.proofs.Build.{built, front-none, front-turn, front-stays, front-length, front-at, front-ext}
+use Rattle.counting.proofs.Build.{built, front-none, front-turn, front-more, front-length, front-at, front-ext}
 use Rattle.gradecast.specs.Cast.{cells, cellsTo}
 use Rattle.gradecast.specs.Inside.{PutTo}
 use Rattle.gradecast.proofs.Places.{two-digits}
@@ -66,16 +66,14 @@ module _ (n : ℕ) (f : ℕ → ℕ → ℕ) where
       ∙ ap (λ (q : ℕ). cellsTo q n f) (omega arith)
 
   -- a row of zeros need not be put
-  pub cells-skip : (i : ℕ) → n ≤ 13 → i < n → ((k : ℕ) → k < n → f i k ≡ 0) → (m : ℕ) → m ≤ n →
-      cellsTo (i * n) n f ≡ cellsTo (i * n + m) n f
+  pub cells-skip : (i : ℕ) → n ≤ 13 → i < n → ((k : ℕ) → k < n → f i k ≡ 0) →
+      cellsTo (i * n) n f ≡ cellsTo (i * n + n) n f
   unfolding cellsTo
-  cells-skip i high hi h zero l = ap (λ (q : ℕ). cellsTo q n f) (omega arith)
-  cells-skip i high hi h (suc m) l =
-      cells-skip i high hi h m (omega arith)
-      ∙ front-stays (i * n + m) (λ p. f (p / n) (p % n)) (replicate 169 0) (omega (arith, part-fits high hi))
-      (getD-replicate 169 (i * n + m) 0 0 (omega (arith, part-fits high hi))
-      ∙ sym (ap₂ f (digits-div i l) (digits-mod i l) ∙ h m l))
-      ∙ ap (λ (q : ℕ). cellsTo q n f) (omega arith)
+  cells-skip i high hi h =
+      front-more (i * n) n (λ p. f (p / n) (p % n)) (replicate 169 0) (part-fits high hi)
+      (λ k l.
+      getD-replicate 169 (i * n + k) 0 0 (place-fits high hi l)
+      ∙ sym (ap₂ f (digits-div i l) (digits-mod i l) ∙ h k l))
 
 -- the same numbers give the same cells
 pub cells-ext : (n : ℕ) (f g : ℕ → ℕ → ℕ) → ((i k : ℕ) → f i k ≡ g i k) → cells n f ≡ cells n g
@@ -121,7 +119,7 @@ module _ {n i : ℕ} (high : n ≤ 13) (below : i < n) (g : ℕ → ℕ) {first 
 
   -- nothing is put for a faulty box
   pub put-skipped : ((k : ℕ) → k < n → g k ≡ 0) → PutTo n i n g first first
-  put-skipped z = λ f h e. e ∙ cells-skip n f i high below (λ k l. h k l ∙ z k l) n (omega arith)
+  put-skipped z = λ f h e. e ∙ cells-skip n f i high below (λ k l. h k l ∙ z k l)
 
   -- the same numbers by another name
   pub put-same : (b : ℕ → ℕ) {last : List ℕ} → ((k : ℕ) → k < n → b k ≡ g k) → PutTo n i n b first last →

@@ -2,7 +2,8 @@
 -- a row differ by at most t. All else is counting with 3t < n: what every sound box says stands n − t times, which is
 -- more than half and more than 2t; what no sound box says stands at most t times, too few for a vote or a grade; two
 -- votes of n − t places at two sound boxes are n − 2t and n − t places in one column, more than there are; and a
--- support of 2t + 1 at one sound box is t + 1 at another. Assumes nothing.
+-- support of 2t + 1 at one sound box is t + 1 at another. All sound boxes say a sound leader's row in step 3, so its
+-- support is their number and that of the faulty boxes that say it too. Assumes nothing.
 use mathlib.Core.Path.{_≡_, refl, sym, ap, _∙_}
 use mathlib.Core.Bool.{true, _&&_}
 use mathlib.Core.List.{List}
@@ -11,23 +12,22 @@ use native.Mathlib.Decide.{ℕ-discrete}
 use native.Mathlib.Omega.{arith}
 use lib.Dec.{eqb}
 use lib.ListN.{getD}
-use borrow.Author.Tests.{eqb-true, eq-eqb, ne-eqb}
+use borrow.Author.Tests.{eqb-true}
 use Rattle.counting.specs.Count.{build, count}
 use Rattle.counting.specs.Sets.{member}
 use Rattle.counting.specs.Most.{places}
-use Rattle.counting.proofs.Bools.{cond-true, cond-false}
 use Rattle.counting.proofs.Build.{length-build}
 use Rattle.counting.proofs.Count.{Between, count-more}
 use Rattle.counting.proofs.Places.{places-build, places-one}
 use Rattle.tally.specs.Tally.{voteOf, confidenceOf, gradedRow, supportOf}
-use Rattle.tally.proofs.Laws.{vote-carried, vote-none, vote-is, confidence-2, confidence-0, places-support}
+use Rattle.tally.proofs.Laws.{vote-carried, vote-none, vote-is, confidence-fits, places-support}
 use Rattle.tally.proofs.Laws.{graded-counts, graded-firm}
 use Rattle.gradecast.specs.Steps.{place1, place2, place3, sends, hears, heard1, heard2, column2, voted}
 use Rattle.gradecast.specs.Steps.{heard3, column3, confidence, gradeRow, supportFor}
 use Rattle.gradecast.specs.Fair.{SoundBox, faultyBoxes, Tolerated, FewFaulty, Fair, Gradecast}
 use Rattle.gradecast.specs.Inside.{Calm}
 use Rattle.gradecast.proofs.Boxes.{sound-not-faulty, not-faulty-sound}
-use Rattle.gradecast.proofs.Grades.{positive, at-most-2, row-none, row-not-zero}
+use Rattle.gradecast.proofs.Grades.{positive, at-most-2, row-not-zero}
 use Rattle.gradecast.proofs.Listed.{listed-heard1}
 use Rattle.gradecast.proofs.Near.{all-places, no-places, near, sound-places}
 
@@ -78,7 +78,7 @@ module _ {n t faulty : ℕ} (tolerated : Tolerated n t) (few : FewFaulty n t fau
       go (no z) =
           let v : ℕ = gradedRow t (build n f) in
           let c = graded-counts t (build n f) z in
-          confidence-0 t (build n f) .1
+          confidence-fits t (build n f) .none .1
           (omega (arith, c .1, no-places n 0 v (λ e. c .0 (sym e)), near n faulty f (λ j. 0) v h))
 
   -- where the sound boxes say the same in both columns, there are no two votes
@@ -104,8 +104,8 @@ module _ {n t faulty : ℕ} (tolerated : Tolerated n t) (few : FewFaulty n t fau
       (omega (
         arith,
         c .1,
-        confidence-2 t (build n f) .0 two,
-        confidence-0 t (build n g) .0 none,
+        confidence-fits t (build n f) .two .0 two,
+        confidence-fits t (build n g) .none .0 none,
         places-support (build n g) (gradedRow t (build n f)) (c .0),
         near n faulty f g (gradedRow t (build n f)) h,
       ))
@@ -123,7 +123,7 @@ module _ {n t faulty : ℕ} (tolerated : Tolerated n t) (few : FewFaulty n t fau
       v = gradedRow t (build n f)
 
       above : supportOf (build n f) ≤ t → ⊥
-      above h = z (confidence-0 t (build n f) .1 h)
+      above h = z (confidence-fits t (build n f) .none .1 h)
 
       b : Between n (member faulty) (λ j. eqb (f j) v)
       b =

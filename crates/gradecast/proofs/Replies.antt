@@ -16,7 +16,7 @@ use Rattle.counting.proofs.Refuse.{accepted, refused, passed, none-left}
 use Rattle.sizes.specs.Sizes.{outside, tooMany, sizeRefusal, tableRows, byN, sound}
 use Rattle.sizes.proofs.Laws.{inside, inside-low, inside-high, tolerated-lt, by-n-inside}
 use Rattle.sizes.proofs.Laws.{passes-sized, sized-passes, size-given, size-passed}
-use Rattle.tally.specs.Tally.{confidenceAt, confidenceOf}
+use Rattle.tally.specs.Tally.{confidenceAt}
 use Rattle.tally.proofs.Laws.{fits}
 use Rattle.gradecast.specs.declared.Cast.{Cast}
 use Rattle.gradecast.specs.Steps.{gradeRow, confidence, supportFor, messages}
@@ -24,6 +24,7 @@ use Rattle.gradecast.specs.Cast.{ofSound, cells, castOf, castRefusal, no
 use Rattle.gradecast.specs.declared.Settings.{Settings}
 use Rattle.gradecast.specs.Inside.{Ready, RightSize}
 use Rattle.gradecast.proofs.Cells.{cells-ext}
+use Rattle.gradecast.proofs.Grades.{confidence-by}
 
 module _ (n t : ℕ) (table : List ℕ) where
   -- the test behind 4 and 5
@@ -83,13 +84,13 @@ module _ (n t faulty : ℕ) (rows lists table : List ℕ) where
 
   confidences-are : cells n (λ i k. confidenceAt t (supports i k)) ≡
       cells n (ofSound faulty (confidence n t faulty rows lists table))
-  unfolding ofSound confidence confidenceOf supportFor
-  confidences-are = cells-ext n _ _ (λ i k. go (sound faulty i) (supportFor n t faulty rows lists table i k))
+  unfolding ofSound
+  confidences-are = cells-ext n _ _ (λ i k. go (sound faulty i) _ (confidence-by n t faulty rows lists table i k))
     where
-      go : (is-sound : Bool) (support : ℕ) →
-          confidenceAt t (cond is-sound support 0) ≡ cond is-sound (confidenceAt t support) 0
-      go true support = refl
-      go false support = fits t 0 .none .1 (omega arith)
+      go : (is-sound : Bool) (support : ℕ) {c : ℕ} → c ≡ confidenceAt t support →
+          confidenceAt t (cond is-sound support 0) ≡ cond is-sound c 0
+      go true support e = sym e
+      go false support e = fits t 0 .none .1 (omega arith)
 
   -- a reply is what the steps find where each of its parts is
   pub cast-is : (r : Cast) → r .refusal ≡ 0 → r .sent ≡ messages n t faulty rows lists table →

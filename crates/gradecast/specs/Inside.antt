@@ -88,11 +88,11 @@ pub record Calm (n t faulty : ℕ) (lists : List ℕ) : Type 0 where
   pub few : FewFaulty n t faulty
   pub none-listed : NoSoundListed n faulty lists
 
--- leader k is sound, all is calm, and no list at all holds a sound box: so k need not be counted
+-- leader k is sound, no more boxes are faulty than may be, and no list at all holds a sound box
 pub record Trusted (s : Settings) (lists : List ℕ) (k : ℕ) : Type 0 where
-  pub calm : Calm (s .n) (s .t) (s .faulty) lists
   pub leader : SoundBox (s .n) (s .faulty) k
-  pub none-else : (j : ℕ) → oddTo 13 (s .faulty) lists j ≡ member (s .faulty) j
+  pub few : FewFaulty (s .n) (s .t) (s .faulty)
+  pub none-odd : (j : ℕ) → oddTo 13 (s .faulty) lists j ≡ member (s .faulty) j
 
 -- a leader that is not asked is one of those
 abbrev pub EnoughAsked : Settings → List ℕ → ℕ → Type 0
@@ -106,7 +106,7 @@ AskedFor s odd asked = (lists : List ℕ) → OddSet 13 (s .faulty) lists odd �
 pub record Prepared (hall : Hall) (lists table : List ℕ) : Type 0 where
   pub ready : Ready (hall .settings .n) table
   pub size : RightSize (hall .settings)
-  pub sound-boxes : hall .sound ≡ hall .settings .n - faultyBoxes (hall .settings .n) (hall .settings .faulty)
+  pub all-sound : hall .many ≡ hall .settings .n - faultyBoxes (hall .settings .n) (hall .settings .faulty)
   pub odd-set : OddSet 13 (hall .settings .faulty) lists (hall .odd)
   pub enough : EnoughAsked (hall .settings) lists (hall .asked)
 
@@ -128,54 +128,55 @@ columnOf n heard k = take n (drop (k * n) heard)
 unfoldable pub onLeader : Bool → Settings → (ℕ → List ℕ → ℕ) → ℕ → List ℕ → ℕ → ℕ
 onLeader to-count s counted plain heard k = cond to-count (counted (s .t) (columnOf (s .n) heard k)) plain
 
--- must a box that said this about leader k count it in step 4? A leader that nobody names may still be named by liars.
+-- must a box that said this about leader k count it in step 4? Where no sound box names a row for a leader, a faulty
+-- one still may, and that row has support.
 abbrev pub mustCount : Hall → ℕ → ℕ → Bool
 mustCount hall own k = eqb own 0 || member (hall .asked) k
 
--- what the box in this seat, with this list, hears from sender j about leader k in step 3
-abbrev pub thirdFrom : Seat → ℕ → List ℕ → List ℕ → ℕ → ℕ → ℕ
-thirdFrom seat list table said k j =
-    let n = seat .hall .settings .n in
-    heardFrom (n * n + n * n * n) (seat .hall .settings) list table said (seat .i) k j
+-- the box in this seat: what it hears from sender j about leader k in step 2 and in step 3, with this list; and that
+-- all of it is there, with its own list
+module _ (seat : Seat) where
+  abbrev n : ℕ
+  n = seat .hall .settings .n
 
--- all that it hears in step 3 is there
-abbrev pub AllThird : Seat → List ℕ → List ℕ → List ℕ → List ℕ → Type 0
-AllThird seat lists table said heard =
-    SendersTo (seat .hall .settings .n) (seat .hall .settings .n)
-    (thirdFrom seat (getD lists (seat .i) 0) table said) heard
+  abbrev pub secondFrom : ℕ → List ℕ → List ℕ → ℕ → ℕ → ℕ
+  secondFrom list table said k j = heardFrom (n * n) (seat .hall .settings) list table said (seat .i) k j
 
--- is that what the box said itself?
-abbrev pub echoed : Seat → ℕ → List ℕ → List ℕ → ℕ → ℕ → Bool
-echoed seat list table said k j =
-    eqb (thirdFrom seat list table said k j) (saidBy (seat .hall .settings .n) said k (seat .i))
+  abbrev pub AllSecond : List ℕ → List ℕ → List ℕ → List ℕ → Type 0
+  AllSecond lists table said = SendersTo n n (secondFrom (getD lists (seat .i) 0) table said)
 
--- how many of the first m senders that are faulty or on some list say so about leader k
-unfoldable pub echoesTo : ℕ → Seat → ℕ → List ℕ → List ℕ → ℕ → ℕ
-echoesTo m seat list table said k = count m (λ j. member (seat .hall .odd) j && echoed seat list table said k j)
+  abbrev pub thirdFrom : ℕ → List ℕ → List ℕ → ℕ → ℕ → ℕ
+  thirdFrom list table said k j = heardFrom (n * n + n * n * n) (seat .hall .settings) list table said (seat .i) k j
 
--- the echoes so far, and one more for each leader about whom sender j says so
-abbrev pub moreEchoes : Seat → ℕ → List ℕ → List ℕ → ℕ → List ℕ → ℕ → ℕ
-moreEchoes seat list table said j echoes k = getD echoes k 0 + cond (echoed seat list table said k j) 1 0
+  abbrev pub AllThird : List ℕ → List ℕ → List ℕ → List ℕ → Type 0
+  AllThird lists table said = SendersTo n n (thirdFrom (getD lists (seat .i) 0) table said)
+
+-- the echoes of a box that says own k about leader k, and hears from k j from sender j about k
+module _ (own : ℕ → ℕ) (from : ℕ → ℕ → ℕ) where
+  -- how many of the first m senders that are in the set odd say about leader k what the box says itself
+  unfoldable pub echoesTo : ℕ → ℕ → ℕ → ℕ
+  echoesTo odd m k = count m (λ j. member odd j && eqb (from k j) (own k))
+
+  -- for each of n leaders, in 13 places
+  abbrev pub echoesOf : ℕ → ℕ → ℕ → List ℕ
+  echoesOf odd n m = front n (echoesTo odd m) (replicate 13 0)
+
+  -- these, and one more for leader k where sender j says so
+  abbrev pub oneMore : List ℕ → ℕ → ℕ → ℕ
+  oneMore echoes j k = getD echoes k 0 + cond (eqb (from k j) (own k)) 1 0
 
 -- none of the first n numbers is above n
 abbrev pub AtMost : ℕ → List ℕ → Type 0
 AtMost n xs = (k : ℕ) → k < n → getD xs k 0 ≤ n
 
--- a number for each leader in 13 places
-abbrev pub forLeaders : ℕ → (ℕ → ℕ) → List ℕ
-forLeaders n f = front n f (replicate 13 0)
+-- what the box in this seat said about leader k
+abbrev pub saidHere : Seat → List ℕ → ℕ → ℕ
+saidHere seat said k = saidBy (seat .hall .settings .n) said k (seat .i)
 
--- the same, of all senders
-abbrev pub echoesOf : Seat → ℕ → List ℕ → List ℕ → List ℕ
-echoesOf seat list table said =
-    forLeaders (seat .hall .settings .n) (echoesTo (seat .hall .settings .n) seat list table said)
-
--- what the box in this seat makes of leader k from what it said and heard: its vote; the row and the support of its
--- grade
+-- what it makes of leader k from what it said and heard: its vote; the row and the support of its grade
 module _ (seat : Seat) (said heard : List ℕ) (k : ℕ) where
-  -- what it said about k itself
   abbrev own : ℕ
-  own = saidBy (seat .hall .settings .n) said k (seat .i)
+  own = saidHere seat said k
 
   abbrev pub voteBy : ℕ
   voteBy = onLeader (member (seat .hall .asked) k) (seat .hall .settings) voteOf own heard k
@@ -186,7 +187,7 @@ module _ (seat : Seat) (said heard : List ℕ) (k : ℕ) where
   abbrev pub supportBy : List ℕ → ℕ
   supportBy echoes =
       onLeader (mustCount (seat .hall) own k) (seat .hall .settings) (λ t. supportOf)
-      (seat .hall .sound + getD echoes k 0) heard k
+      (seat .hall .many + getD echoes k 0) heard k
 
 -- what the sound boxes make of the rows in each step, and 0 in a faulty box's place: V, Y, and the row and the
 -- support of step 4

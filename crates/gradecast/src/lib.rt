@@ -20,19 +20,20 @@ ghost use Rattle.gradecast.specs.Inside.{
   AskedFor,
   Among,
   heardFrom,
+  secondFrom,
+  thirdFrom,
   onLeader,
   mustCount,
-  thirdFrom,
-  echoed,
-  moreEchoes,
+  saidHere,
+  oneMore,
   echoesOf,
-  AtMost,
-  AllThird,
   voteBy,
   rowBy,
   supportBy,
   SendersTo,
-  AllHeard,
+  AllSecond,
+  AllThird,
+  AtMost,
   FromSender,
   saidBy,
   OddSet,
@@ -69,10 +70,10 @@ pub struct Settings {
 }
 
 // What is the same for all boxes of one call: the settings; how many boxes are sound; which are faulty or on some
-// list; and the leaders that must be counted.
+// list; and the leaders that every box must count, in steps 3 and 4 alike.
 struct Hall {
     settings: Settings,
-    sound: u8,
+    many: u8,
     odd: u16,
     asked: u16,
 }
@@ -193,14 +194,15 @@ fn faulty_boxes(n: usize, faulty: u16) -> usize
     found
 }
 
-// The leaders that must be counted: the faulty ones, where at most t boxes are faulty and the lists hold no sound box;
-// else all. What a box heard from any other leader in step 1 is its vote in step 3 and the row of its grade in step 4.
-fn asked_leaders(settings: Settings, liars: usize, odd: u16) -> u16
-    requires { ⌜ RightSize settings × (liars ≡ faultyBoxes (settings .n) (settings .faulty)) ⌝ }
+// The leaders that every box must count: the faulty ones, where at most t boxes are faulty and the lists hold no sound
+// box; else all. What a box heard from any other leader in step 1 is its vote in step 3, and the row of its grade in
+// step 4 unless it is nothing.
+fn asked_leaders(settings: Settings, number: usize, odd: u16) -> u16
+    requires { ⌜ RightSize settings × (number ≡ faultyBoxes (settings .n) (settings .faulty)) ⌝ }
     ensures { λ r. ⌜ AskedFor settings odd r ⌝ }
 {
     let most = settings.t as usize;
-    if liars > most {
+    if number > most {
         return 65535;
     }
     if odd == settings.faulty {
@@ -257,10 +259,9 @@ fn hear_about(
     hear(settings, list, table, j, place, said[j * n + k])
 }
 
-// What it hears from box j about every leader. Whether j is listed or faulty does not change from leader to leader, so
-// the leaders are gone through inside.
-fn hear_from(
-    base: usize,
+// What it hears from box j about every leader in step 2. Whether j is listed or faulty does not change from leader to
+// leader, so the leaders are gone through inside.
+fn hear_second_from(
     seat: Seat,
     list: u16,
     table: &[u64],
@@ -269,12 +270,13 @@ fn hear_from(
     heard: &mut [u64],
 )
     requires { ⌜ Ready (seat .hall .settings .n) (now table) × Among (seat .hall .settings .n) (seat .i) j ×
-        RowsFit base (seat .hall .settings .n) × (length (now heard) ≡ 169) ⌝ }
+        (length (now heard) ≡ 169) ⌝ }
     ensures { λ r. ⌜ FromSender (seat .hall .settings .n) j (seat .hall .settings .n)
-        (λ k. heardFrom base (seat .hall .settings) list (now (table .entry)) (now (said .entry)) (seat .i) k j)
+        (λ k. secondFrom seat list (now (table .entry)) (now (said .entry)) k j)
         (now (heard .entry)) (now (heard .exit)) ⌝ }
 {
     let n = seat.hall.settings.n;
+    let base = n * n;
     let mut k: usize = 0;
     while k < n {
         heard[k * n + j] = hear_about(base, seat, list, table, said, j, k);
@@ -282,21 +284,14 @@ fn hear_from(
     }
 }
 
-// What the box in this seat hears from all boxes about all leaders, a column for each leader. What the senders say
-// that are neither faulty nor listed is there already, and stays for the next box; only the other senders are gone
-// through.
-fn hear_all(
-    base: usize,
-    seat: Seat,
-    lists: &[u16; 13],
-    table: &[u64],
-    said: &[u64; 169],
-    heard: &mut [u64],
-)
-    requires { ⌜ Seated seat (now lists) (now table) × RowsFit base (seat .hall .settings .n) ×
-        (length (now heard) ≡ 169) × PlainHeard (seat .hall .settings) (now lists) (now said) (now heard) ⌝ }
-    ensures { λ r. ⌜ AllHeard base (seat .hall .settings) (getD (now (lists .entry)) (seat .i) 0)
-        (now (table .entry)) (now (said .entry)) (seat .i) (now (heard .exit)) ⌝ }
+// What the box in this seat hears in step 2 from all boxes about all leaders, a column for each leader. What the
+// senders say that are neither faulty nor listed is there already, and stays for the next box; only the other senders
+// are gone through.
+fn hear_second(seat: Seat, lists: &[u16; 13], table: &[u64], said: &[u64; 169], heard: &mut [u64])
+    requires { ⌜ Seated seat (now lists) (now table) × (length (now heard) ≡ 169) ×
+        PlainHeard (seat .hall .settings) (now lists) (now said) (now heard) ⌝ }
+    ensures { λ r. ⌜ AllSecond seat (now (lists .entry)) (now (table .entry)) (now (said .entry))
+        (now (heard .exit)) ⌝ }
     ensures { λ r. ⌜ PlainHeard (seat .hall .settings) (now (lists .entry)) (now (said .entry))
         (now (heard .exit)) ⌝ }
 {
@@ -306,7 +301,7 @@ fn hear_all(
     let mut j: usize = 0;
     while j < n {
         if sizes::is_member(seat.hall.odd, j) {
-            hear_from(base, seat, list, table, said, j, heard);
+            hear_second_from(seat, list, table, said, j, heard);
         }
         j += 1;
     }
@@ -360,12 +355,10 @@ fn step3_box(
     ensures { λ r. ⌜ PlainHeard (seat .hall .settings) (now (lists .entry)) (now (second .entry))
         (now (heard .exit)) ⌝ }
 {
-    let n = seat.hall.settings.n;
     if sizes::is_member(seat.hall.settings.faulty, seat.i) {
         return;
     }
-    let base = n * n;
-    hear_all(base, seat, lists, table, second, heard);
+    hear_second(seat, lists, table, second, heard);
     put_votes(seat, second, heard, out);
 }
 
@@ -416,7 +409,8 @@ fn hear_third_from(
         (λ k. thirdFrom seat list (now (table .entry)) (now (said .entry)) k j)
         (now (heard .entry)) (now (heard .exit)) ⌝ }
     ensures { λ r. ⌜ now (echoes .exit) ≡ front (seat .hall .settings .n)
-        (moreEchoes seat list (now (table .entry)) (now (said .entry)) j (now (echoes .entry)))
+        (oneMore (saidHere seat (now (said .entry)))
+        (thirdFrom seat list (now (table .entry)) (now (said .entry))) (now (echoes .entry)) j)
         (now (echoes .entry)) ⌝ }
 {
     let n = seat.hall.settings.n;
@@ -431,8 +425,8 @@ fn hear_third_from(
     }
 }
 
-// What the box in this seat hears in step 3 from all boxes about all leaders, as hear_all has it; and how often each
-// leader's row is echoed by those that are gone through.
+// What the box in this seat hears in step 3 from all boxes about all leaders, as hear_second has it for step 2; and
+// how often what it said about each leader is echoed by those that are gone through.
 fn hear_third(
     seat: Seat,
     lists: &[u16; 13],
@@ -447,8 +441,9 @@ fn hear_third(
         (now (heard .exit)) ⌝ }
     ensures { λ r. ⌜ PlainHeard (seat .hall .settings) (now (lists .entry)) (now (said .entry))
         (now (heard .exit)) ⌝ }
-    ensures { λ r. ⌜ now (echoes .exit) ≡ echoesOf seat (getD (now (lists .entry)) (seat .i) 0)
-        (now (table .entry)) (now (said .entry)) ⌝ }
+    ensures { λ r. ⌜ now (echoes .exit) ≡ echoesOf (saidHere seat (now (said .entry)))
+        (thirdFrom seat (getD (now (lists .entry)) (seat .i) 0) (now (table .entry)) (now (said .entry)))
+        (seat .hall .odd) (seat .hall .settings .n) (seat .hall .settings .n) ⌝ }
 {
     let n = seat.hall.settings.n;
     let i = seat.i;
@@ -474,12 +469,12 @@ fn must_count(hall: Hall, own: u64, k: usize) -> bool
 
 // Row and support over leader k's column, where k must be counted. Else all sound boxes say what the box said itself,
 // and besides those only the faulty ones that echo it.
-fn grade_on(hall: Hall, own: u64, echo: u8, heard: &[u64], k: usize) -> Found
-    requires { ⌜ RightSize (hall .settings) × (k < hall .settings .n) × (hall .sound ≤ 13) × (echo ≤ 13) ×
+fn grade_on(hall: Hall, own: u64, echoes: u8, heard: &[u64], k: usize) -> Found
+    requires { ⌜ RightSize (hall .settings) × (k < hall .settings .n) × (hall .many ≤ 13) × (echoes ≤ 13) ×
         (length (now heard) ≡ 169) ⌝ }
     ensures { λ r. ⌜ (r .row ≡ onLeader (mustCount hall own k) (hall .settings) gradedRow own
         (now (heard .entry)) k) ×
-        (r .support ≡ onLeader (mustCount hall own k) (hall .settings) (λ t. supportOf) (hall .sound + echo)
+        (r .support ≡ onLeader (mustCount hall own k) (hall .settings) (λ t. supportOf) (hall .many + echoes)
         (now (heard .entry)) k) ⌝ }
 {
     if must_count(hall, own, k) {
@@ -492,7 +487,7 @@ fn grade_on(hall: Hall, own: u64, echo: u8, heard: &[u64], k: usize) -> Found
             support: graded.support,
         };
     }
-    let support = hall.sound + echo;
+    let support = hall.many + echoes;
     Found { row: own, support }
 }
 
@@ -506,7 +501,7 @@ fn put_grades(
     rows: &mut [u64],
     supports: &mut [u8],
 )
-    requires { ⌜ RightSize (seat .hall .settings) × (seat .i < seat .hall .settings .n) × (seat .hall .sound ≤ 13) ×
+    requires { ⌜ RightSize (seat .hall .settings) × (seat .i < seat .hall .settings .n) × (seat .hall .many ≤ 13) ×
         AtMost (seat .hall .settings .n) (now echoes) × (length (now heard) ≡ 169) × (length (now rows) ≡ 169) ×
         (length (now supports) ≡ 169) ⌝ }
     ensures { λ r. ⌜ PutTo (seat .hall .settings .n) (seat .i) (seat .hall .settings .n)
@@ -659,14 +654,14 @@ fn all_steps(settings: Settings, rows: &[u64; 13], lists: &[u16; 13], table: &[u
     ensures { λ r. ⌜ r ≡ castOf (settings .n) (settings .t) (settings .faulty)
         (now (rows .entry)) (now (lists .entry)) (now (table .entry)) ⌝ }
 {
-    let liars = faulty_boxes(settings.n, settings.faulty);
+    let number = faulty_boxes(settings.n, settings.faulty);
     let odd = odd_boxes(settings.faulty, lists);
-    let sound = (settings.n - liars) as u8;
+    let many = (settings.n - number) as u8;
     let hall = Hall {
         settings,
-        sound,
+        many,
         odd,
-        asked: asked_leaders(settings, liars, odd),
+        asked: asked_leaders(settings, number, odd),
     };
     let mut second = [0u64; 169];
     step1(settings, rows, lists, table, &mut second);

@@ -102,7 +102,7 @@ pub places-support : (xs : List ℕ) (v : ℕ) → (v ≡ 0 → ⊥) → places 
 unfolding supportOf
 places-support xs v z = subst (λ (m : ℕ). m ≤ support xs (most xs)) (support-places xs v z) (most-is xs .greatest v)
 
--- nor has it more places than there are
+-- the support is at most the number of rows
 pub support-le : (xs : List ℕ) → supportOf xs ≤ length xs
 unfolding supportOf support places
 support-le xs = at-most (eqb (most xs) 0)
@@ -160,7 +160,7 @@ fits t s = go (leb (2 * t + 1) s) (ltb t s) refl refl
         }
 
 -- no confidence is above 2
-pub confidence-at-le : (t s : ℕ) → confidenceAt t s ≤ 2
+confidence-at-le : (t s : ℕ) → confidenceAt t s ≤ 2
 unfolding confidenceAt
 confidence-at-le t s = go (leb (2 * t + 1) s) (ltb t s)
   where
@@ -170,18 +170,10 @@ confidence-at-le t s = go (leb (2 * t + 1) s) (ltb t s)
     go false false = omega arith
 
 module _ (t : ℕ) (xs : List ℕ) where
-  -- confidence 2, 1 and 0 by the support
-  pub confidence-2 : (confidenceOf t xs ≡ 2) ↔ (2 * t + 1 ≤ supportOf xs)
+  -- the confidence by the support
+  pub confidence-fits : Fits t (supportOf xs) (confidenceOf t xs)
   unfolding confidenceOf
-  confidence-2 = fits t (supportOf xs) .two
-
-  pub confidence-1 : (confidenceOf t xs ≡ 1) ↔ ((t < supportOf xs) × (supportOf xs < 2 * t + 1))
-  unfolding confidenceOf
-  confidence-1 = fits t (supportOf xs) .one
-
-  pub confidence-0 : (confidenceOf t xs ≡ 0) ↔ (supportOf xs ≤ t)
-  unfolding confidenceOf
-  confidence-0 = fits t (supportOf xs) .none
+  confidence-fits = fits t (supportOf xs)
 
   pub confidence-le : confidenceOf t xs ≤ 2
   unfolding confidenceOf
@@ -204,7 +196,7 @@ module _ (t : ℕ) (xs : List ℕ) where
   graded-counts z = rw (graded-most z) (not-zero, sym (support-places xs (most xs) not-zero))
     where
       more : (s : ℕ) → support xs (most xs) ≡ s → 0 < support xs (most xs)
-      more zero e = absurd (z (confidence-0 .1 (omega arith)))
+      more zero e = absurd (z (confidence-fits .none .1 (omega arith)))
       more (suc s) e = omega arith
 
       not-zero : most xs ≡ 0 → ⊥
@@ -216,11 +208,11 @@ module _ (t : ℕ) (xs : List ℕ) where
   graded-firm v z half enough = (two, graded-most (λ e. absurd (omega (arith, two))) ∙ most-majority xs v z half)
     where
       two : confidenceOf t xs ≡ 2
-      two = confidence-2 .1 (omega (arith, places-support xs v z))
+      two = confidence-fits .two .1 (omega (arith, places-support xs v z))
 
 -- confidence 1 never arises where t is 0
 pub never-1 : (xs : List ℕ) → confidenceOf 0 xs ≡ 1 → ⊥
-never-1 xs e = let h = confidence-1 0 xs .0 e in absurd (omega (arith, h .0, h .1))
+never-1 xs e = let h = confidence-fits 0 xs .one .0 e in absurd (omega (arith, h .0, h .1))
 
 -- a row that counts: the leader at this place has it, with confidence 1 or 2
 pub record Held (rows confidences : List ℕ) (v : ℕ) : Type 0 where

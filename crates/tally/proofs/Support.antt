@@ -14,8 +14,8 @@ use Rattle.sizes.proofs.Laws.{passes-sized}
 use Rattle.tally.specs.declared.Graded.{Graded}
 use Rattle.tally.specs.Tally.{supportOf, confidenceOf}
 use Rattle.tally.specs.Reply.{gradeReply, unless}
-use Rattle.tally.specs.Support.{Fits, SupportSays}
-use Rattle.tally.proofs.Laws.{support-le, support-none, fits}
+use Rattle.tally.specs.Support.{SupportSays}
+use Rattle.tally.proofs.Laws.{support-le, support-none, confidence-fits}
 use Rattle.tally.proofs.Taken.{grade-support, grade-confidence}
 use Rattle.tally.proofs.Calls.{GradeCall, grade-call-is}
 
@@ -27,7 +27,6 @@ module _ {rows : List ℕ} {t : ℕ} {r : Graded} (c : GradeCall rows t r) where
 
   -- a grade that is not refused
   pub support-says : r .refusal ≡ 0 → SupportSays rows t r
-  unfolding confidenceOf
   support-says e =
       record {
         nothing-heard = (
@@ -35,7 +34,7 @@ module _ {rows : List ℕ} {t : ℕ} {r : Graded} (c : GradeCall rows t r) where
           λ h. supports ∙ support-none rows .1 h,
         );
         at-most-n = omega (arith, supports, support-le rows);
-        gives = rw (supports, confides) (fits t (supportOf rows));
+        gives = rw (supports, confides) (confidence-fits t rows);
       }
     where
       sized : Sized (length rows) t

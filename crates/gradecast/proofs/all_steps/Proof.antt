@@ -45,7 +45,7 @@ prepared : (c : tie.After-asked-leaders) →
     Prepared
     (record {
       settings = a .settings;
-      sound = a .settings .n - odd .before .faulty-boxes .result;
+      many = a .settings .n - odd .before .faulty-boxes .result;
       odd = odd .odd-boxes .result;
       asked = c .asked-leaders .result;
     })
@@ -58,7 +58,7 @@ prepared c =
     record {
       ready = p .0;
       size = p .1;
-      sound-boxes = ap (λ (m : ℕ). start faulty .args .settings .n - m) (faulty .faulty-boxes .ensures);
+      all-sound = ap (λ (m : ℕ). start faulty .args .settings .n - m) (faulty .faulty-boxes .ensures);
       odd-set = odd;
       enough = c .asked-leaders .ensures _ odd;
     }
@@ -69,11 +69,11 @@ faulty-boxes-requires c κs = search needs
 odd-boxes-requires : tie.Need-odd-boxes-requires
 odd-boxes-requires c κs = search needs
 
-sub-sound : tie.Need-sub-sound
-sub-sound c = few (c .before .before)
+sub-many : tie.Need-sub-many
+sub-many c = few (c .before .before)
 
-cast-sound : tie.Need-cast-sound
-cast-sound c = omega (arith, start (c .before .before) .pre .1 .high)
+cast-many : tie.Need-cast-many
+cast-many c = omega (arith, start (c .before .before) .pre .1 .high)
 
 asked-leaders-requires : tie.Need-asked-leaders-requires
 asked-leaders-requires c κs = search needs
@@ -138,8 +138,8 @@ all-steps-spec =
     (tie.spec
     faulty-boxes-requires
     odd-boxes-requires
-    sub-sound
-    cast-sound
+    sub-many
+    cast-many
     asked-leaders-requires
     slice-aggregate-step1
     step1-requires

@@ -21,7 +21,7 @@ returns-2 c =
     faulty-asked _ _ (p .0) (omega (arith, p .1, few .if1 .left)) same
 
 returns-3 : tie.Need-returns-3
-returns-3 c = all-asked _ _ (c .before .before .before .before .pre .0 .high)
+returns-3 c = let start = c .before .before .before .before in all-asked _ _ (start .pre .0 .high)
 
 pub asked-leaders-spec : {M : Type 1} → statement M
 asked-leaders-spec =

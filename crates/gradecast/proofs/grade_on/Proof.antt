@@ -9,7 +9,7 @@ use lib.ListN.{length}
 use Rattle.tally.specs.declared.Graded.{Graded}
 use Rattle.tally.specs.Tally.{supportOf, gradedRow}
 use Rattle.gradecast.specs.Inside.{mustCount}
-use Rattle.gradecast.proofs.Asked.{on-asked, on-other}
+use Rattle.gradecast.proofs.Asked.{on-counted, on-other}
 use Rattle.gradecast.proofs.Columns.{column-fits, part-row, part-support}
 use borrow.Author.Needs.{needs}
 use Rattle.gradecast.proofs.grade_on.Statement.{statement}
@@ -18,6 +18,10 @@ use Rattle.gradecast.proofs.grade_on.Tie as tie
 -- the entry, from where leader k is to be counted
 abbrev start : tie.Then1 → tie.Start
 start c = c .before .before .before
+
+-- the entry, from where it is not
+abbrev entry : tie.After-struct-known → tie.Start
+entry c = c .before .before .before .before
 
 -- leader k's column lies within what was heard
 fits : (c : tie.Then1) →
@@ -60,20 +64,20 @@ returns c =
     let p = start counted .pre in (
       ap (λ (r : Graded). r .row) (c .grade .ensures)
           ∙ part-row (a .hall .settings) (p .0) (p .1) (a .heard .now) (p .4)
-          ∙ sym (on-asked _ _ _ _ _ _ (is-counted counted)),
+          ∙ sym (on-counted _ _ _ _ _ _ (is-counted counted)),
       ap (λ (r : Graded). r .support) (c .grade .ensures)
           ∙ part-support (a .hall .settings) (p .0) (p .1) (a .heard .now) (p .4)
-          ∙ sym (on-asked _ _ _ _ _ _ (is-counted counted)),
+          ∙ sym (on-counted _ _ _ _ _ _ (is-counted counted)),
     )
 
 add-support : tie.Need-add-support
-add-support c = let p = c .before .before .before .before .pre in omega (arith, p .2, p .3)
+add-support c = let p = entry c .pre in omega (arith, p .2, p .3)
 
 returns-2 : tie.Need-returns-2
 returns-2 c =
-    let a = c .before .before .before .before .args in
+    let a = entry c .args in
     let not-counted = sym (c .before .before .must-count .ensures) ∙ c .before .if1 .left in
-    let support = a .hall .sound + a .echo in (
+    let support = a .hall .many + a .echoes in (
       sym (on-other _ _ gradedRow (a .own) (a .heard .now) (a .k) not-counted),
       sym (on-other _ (a .hall .settings) (λ t. supportOf) support (a .heard .now) (a .k) not-counted),
     )

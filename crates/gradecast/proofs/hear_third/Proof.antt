@@ -1,12 +1,12 @@
--- `gradecast::hear_third` meets its contract: it goes as hear_all does. After j turns all that the box hears from the
--- senders below j is there, and the echoes of those that are gone through are counted; any other sender is heard by
--- all boxes alike, and its echo is not counted. What is left of n falls. Assumes nothing.
+-- `gradecast::hear_third` meets its contract: it goes as hear_second does. After j turns all that the box hears from
+-- the senders below j is there, and the echoes of those that are gone through are counted; any other sender is heard
+-- by all boxes alike, and its echo is not counted. What is left of n falls. Assumes nothing.
 use mathlib.Core.Path.{_≡_, sym, ap, _∙_}
 use mathlib.Core.Logic.{⊎-elim}
 use Prim.Native.Nat.{_-_, _≤_}
 use native.Mathlib.Omega.{arith}
 use lib.ListN.{length, getD}
-use Rattle.gradecast.specs.Inside.{thirdFrom, SendersTo, oddTo, PlainHeard, echoesTo, forLeaders}
+use Rattle.gradecast.specs.Inside.{thirdFrom, SendersTo, oddTo, PlainHeard, saidHere, echoesOf}
 use Rattle.gradecast.proofs.Columns.{senders-turn}
 use Rattle.gradecast.proofs.Echoes.{echoes-begin, echoes-few, echoes-length}
 use Rattle.gradecast.proofs.Echoes.{echoes-turn, echoes-skip, echoes-end}
@@ -21,7 +21,9 @@ Inv-loop seat lists table said heard₀ echoes₀ n i list j₀ heard echoes j =
     (length heard ≡ length heard₀) ×
     SendersTo (seat .hall .settings .n) j (thirdFrom seat (getD lists (seat .i) 0) table said) heard ×
     PlainHeard (seat .hall .settings) lists said heard ×
-    (echoes ≡ forLeaders (seat .hall .settings .n) (echoesTo j seat (getD lists (seat .i) 0) table said))
+    (echoes ≡
+    echoesOf (saidHere seat said) (thirdFrom seat (getD lists (seat .i) 0) table said) (seat .hall .odd)
+    (seat .hall .settings .n) j)
 
 abbrev μ-loop : tie.MeasureT-loop
 μ-loop seat lists table said heard₀ echoes₀ n i list j₀ heard echoes j = seat .hall .settings .n - j
@@ -47,7 +49,7 @@ loop-holds c =
       search needs,
       λ k j hk l. absurd (omega arith),
       p .2,
-      echoes-begin _ _ _ _ (p .0 .prepared .size .high) (p .3),
+      echoes-begin _ _ _ (p .0 .prepared .size .high) (p .3),
     )
 
 is-member-requires : tie.Need-is-member-requires Inv-loop μ-loop
@@ -58,11 +60,11 @@ hear-third-from-requires c κs =
     let turn = c .before .before .before .before in
     let p = entry (turn .before) .pre in
     let so-far = turn .before .loop in
-    let few = echoes-few _ _ _ _ (small (turn .before)) (so-far .j) (so-far .inv .4) in (
+    let few = echoes-few _ _ _ (small (turn .before)) (so-far .j) (so-far .inv .4) in (
       p .0 .prepared .ready,
       record { is-box = p .0 .below; is-leader = turn .loop-test .taken },
       so-far .inv .1 ∙ p .1,
-      echoes-length _ _ _ _ (small (turn .before)) (so-far .j) (so-far .inv .4),
+      echoes-length _ _ _ (small (turn .before)) (so-far .j) (so-far .inv .4),
       λ k l. omega (arith, few k l, so-far .inv .0),
     )
 
@@ -97,7 +99,7 @@ loop-again c =
       senders-turn _ below (so-far .inv .2) (w .3 .ensures .0),
       plain-stays s (a .lists .now) (a .said .now) (so-far .j) _ _ _ (is-odd (c .before) ∙ w .0 .taken)
           (w .3 .ensures .0) (so-far .inv .3),
-      echoes-turn _ _ _ _ (small at) (so-far .j) (is ∙ w .0 .taken) (so-far .inv .4) (w .3 .ensures .1),
+      echoes-turn _ _ _ (small at) (so-far .j) (so-far .inv .4) (is ∙ w .0 .taken) (w .3 .ensures .1),
     ))
     (λ w.
     rw (w .1, w .2) (
@@ -107,7 +109,7 @@ loop-again c =
           (omega (arith, p .0 .below, small at))
           (so-far .j) (so-far .heard) below (is-odd (c .before) ∙ w .0 .left) (so-far .inv .3) (so-far .inv .2),
       so-far .inv .3,
-      echoes-skip _ _ _ _ (small at) (so-far .j) (is ∙ w .0 .left) (so-far .inv .4),
+      echoes-skip _ _ _ (small at) (so-far .j) (so-far .inv .4) (is ∙ w .0 .left),
     ))
     (c .if1 .came)
 
@@ -118,7 +120,7 @@ same-length-2 : tie.Need-same-length-2 Inv-loop μ-loop
 same-length-2 c =
     let at = c .before in
     let p = entry at .pre in
-    echoes-length _ _ _ _ (small at) (at .loop .j) (at .loop .inv .4) ∙ sym (ap length (p .3))
+    echoes-length _ _ _ (small at) (at .loop .j) (at .loop .inv .4) ∙ sym (ap length (p .3))
 
 returns : tie.Need-returns Inv-loop μ-loop
 returns c =
@@ -127,7 +129,7 @@ returns c =
       λ k j hk hj. inv .2 k j hk (omega arith),
       (
         inv .3,
-        echoes-end _ _ _ _ (small at) (at .loop .j) (omega (arith, inv .0)) (inv .4),
+        echoes-end _ _ _ (small at) (at .loop .j) (inv .4) (omega (arith, inv .0)),
       ),
     )
 

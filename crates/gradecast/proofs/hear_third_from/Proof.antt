@@ -12,7 +12,7 @@ use Rattle.counting.proofs.Build.{front-next, front-whole}
 use Rattle.counting.proofs.Count.{one-le}
 use Rattle.counting.proofs.Loops.{Filled, fill-begins, fill-turn, fill-length}
 use Rattle.sizes.proofs.Laws.{square-le, cube-le}
-use Rattle.gradecast.specs.Inside.{thirdFrom, moreEchoes}
+use Rattle.gradecast.specs.Inside.{thirdFrom, saidHere, oneMore}
 use Rattle.gradecast.proofs.Cells.{place-fits}
 use Rattle.gradecast.proofs.Columns.{Hearing, sender-begins, sender-turn, sender-fits, sender-ends}
 use Rattle.gradecast.proofs.Places.{third-fits}
@@ -23,7 +23,8 @@ use Rattle.gradecast.proofs.hear_third_from.Tie as tie
 abbrev Inv-loop : tie.InvT-loop
 Inv-loop seat list table said j heard₀ echoes₀ n base i k₀ heard echoes k =
     Hearing (seat .hall .settings .n) j (λ m. thirdFrom seat list table said m j) heard₀ k heard ×
-    Filled (seat .hall .settings .n) (moreEchoes seat list table said j echoes₀) echoes₀ k echoes
+    Filled (seat .hall .settings .n)
+    (oneMore (saidHere seat said) (thirdFrom seat list table said) echoes₀ j) echoes₀ k echoes
 
 abbrev μ-loop : tie.MeasureT-loop
 μ-loop seat list table said j heard₀ echoes₀ n base i k₀ heard echoes k = seat .hall .settings .n - k

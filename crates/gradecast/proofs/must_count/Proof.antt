@@ -1,5 +1,5 @@
 -- `gradecast::must_count` meets its contract: it makes the two tests in their order. Assumes nothing.
-use mathlib.Core.Path.{refl, sym, _∙_}
+use mathlib.Core.Path.{refl, _∙_}
 use borrow.Author.Tests.{eq-eqb, ne-eqb}
 use borrow.Author.Needs.{needs}
 use Rattle.gradecast.proofs.must_count.Statement.{statement}

@@ -2,10 +2,7 @@
 -- columns of step 2 in the rules, or with its own word where the leader need not be counted, and the votes are its
 -- Y. What every box hears alike stays for the next box. Assumes nothing.
 use mathlib.Core.Path.{sym, _∙_}
-use native.Mathlib.Omega.{arith}
-use Rattle.sizes.proofs.Laws.{square-le}
 use Rattle.gradecast.proofs.Asked.{seat-faulty, seat-sound, votes-made}
-use Rattle.gradecast.proofs.Places.{second-fits}
 use borrow.Author.Needs.{needs}
 use Rattle.gradecast.proofs.step3_box.Statement.{statement}
 use Rattle.gradecast.proofs.step3_box.Tie as tie
@@ -19,7 +16,7 @@ abbrev put : tie.After-slice-known4 → tie.After-put-votes
 put c = c .before .before
 
 -- the columns are there, from where the votes are put
-abbrev columns : tie.After-put-votes → tie.After-hear-all
+abbrev columns : tie.After-put-votes → tie.After-hear-second
 columns c = c .before .before .before .before .before
 
 is-member-requires : tie.Need-is-member-requires
@@ -31,13 +28,10 @@ returns c =
     let is-faulty = sym (c .before .is-member .ensures) ∙ c .if1 .taken in
     (λ rows e. seat-faulty (p .0) is-faulty _, p .3)
 
-mul-base : tie.Need-mul-base
-mul-base c = omega (arith, square-le (start (c .before) .pre .0 .prepared .size .high))
-
-hear-all-requires : tie.Need-hear-all-requires
-hear-all-requires c κs =
+hear-second-requires : tie.Need-hear-second-requires
+hear-second-requires c κs =
     let p = start (c .before .before) .pre in
-    (p .0, second-fits _, p .1, p .3)
+    (p .0, p .1, p .3)
 
 put-votes-requires : tie.Need-put-votes-requires
 put-votes-requires c κs = search needs
@@ -54,11 +48,11 @@ returns-2 c =
     let box = heard .before .before in
     let p = start (box .before) .pre in
     let is-sound = sym (box .before .is-member .ensures) ∙ box .if1 .left in
-    let size = heard .hear-all .kept .1 .1 .1 .1 .1 .0 ∙ p .1 in (
+    let size = heard .hear-second .kept .1 .1 .1 .1 .0 ∙ p .1 in (
       λ rows e.
-          seat-sound (p .0) _ _ (votes-made _ _ _ _ _ (p .0) size is-sound rows (heard .hear-all .ensures .0) e)
+          seat-sound (p .0) _ _ (votes-made _ _ _ _ _ (p .0) size is-sound rows (heard .hear-second .ensures .0) e)
           (put c .put-votes .ensures),
-      heard .hear-all .ensures .1,
+      heard .hear-second .ensures .1,
     )
 
 pub step3-box-spec : {M : Type 1} → statement M
@@ -67,8 +61,7 @@ step3-box-spec =
     (tie.spec
     is-member-requires
     returns
-    mul-base
-    hear-all-requires
+    hear-second-requires
     put-votes-requires
     same-length
     same-length-2

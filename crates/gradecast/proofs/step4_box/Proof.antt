@@ -39,8 +39,8 @@ put-grades-requires c κs =
     let high = p .0 .prepared .size .high in (
       p .0 .prepared .size,
       p .0 .below,
-      omega (arith, p .0 .prepared .sound-boxes, high),
-      echoes-few _ _ _ _ high _ (heard .hear-third .ensures .1 .1),
+      omega (arith, p .0 .prepared .all-sound, high),
+      echoes-few _ _ _ high _ (heard .hear-third .ensures .1 .1),
       heard .hear-third .kept .1 .1 .1 .1 .0 ∙ p .1,
       p .2,
       p .3,

@@ -7,7 +7,7 @@ use native.Mathlib.Omega.{arith}
 use lib.ListN.{length}
 use Rattle.counting.specs.Sets.{member}
 use Rattle.tally.specs.declared.Voted.{Voted}
-use Rattle.gradecast.proofs.Asked.{on-asked, on-other}
+use Rattle.gradecast.proofs.Asked.{on-counted, on-other}
 use Rattle.gradecast.proofs.Columns.{column-fits, part-vote}
 use borrow.Author.Needs.{needs}
 use Rattle.gradecast.proofs.vote_on.Statement.{statement}
@@ -58,7 +58,7 @@ returns c =
     let p = start asked .pre in
     ap (λ (r : Voted). r .row) (c .vote .ensures)
     ∙ part-vote (a .hall .settings) (p .0) (p .1) (a .heard .now) (p .2)
-    ∙ sym (on-asked _ _ _ _ _ _ (is-asked asked))
+    ∙ sym (on-counted _ _ _ _ _ _ (is-asked asked))
 
 returns-2 : tie.Need-returns-2
 returns-2 c = sym (on-other _ _ _ _ _ _ (sym (c .before .is-member .ensures) ∙ c .if1 .left))

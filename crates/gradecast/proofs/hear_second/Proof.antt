@@ -1,4 +1,4 @@
--- `gradecast::hear_all` meets its contract: after j turns all that the box hears from the senders below j is there.
+-- `gradecast::hear_second` meets its contract: after j turns all that the box hears from the senders below j is there.
 -- What the senders say that are neither faulty nor listed is there all along, and is what the box hears from them; the
 -- rows of any other sender are put down and leave those as they are. What is left of n falls. Assumes nothing.
 use mathlib.Core.Path.{_≡_, sym, _∙_}
@@ -6,23 +6,22 @@ use mathlib.Core.Logic.{⊎-elim}
 use Prim.Native.Nat.{_-_, _≤_}
 use native.Mathlib.Omega.{arith}
 use lib.ListN.{length, getD}
-use Rattle.gradecast.specs.Inside.{heardFrom, SendersTo, oddTo, PlainHeard}
+use Rattle.gradecast.specs.Inside.{secondFrom, SendersTo, oddTo, PlainHeard}
 use Rattle.gradecast.proofs.Columns.{senders-turn}
 use Rattle.gradecast.proofs.Plain.{plain-turn, plain-stays}
 use borrow.Author.Needs.{needs}
-use Rattle.gradecast.proofs.hear_all.Statement.{statement}
-use Rattle.gradecast.proofs.hear_all.Tie as tie
+use Rattle.gradecast.proofs.hear_second.Statement.{statement}
+use Rattle.gradecast.proofs.hear_second.Tie as tie
 
 abbrev Inv-loop : tie.InvT-loop
-Inv-loop base seat lists table said heard₀ n i list j₀ heard j =
+Inv-loop seat lists table said heard₀ n i list j₀ heard j =
     (j ≤ seat .hall .settings .n) ×
     (length heard ≡ length heard₀) ×
-    SendersTo (seat .hall .settings .n) j
-    (heardFrom base (seat .hall .settings) (getD lists (seat .i) 0) table said (seat .i)) heard ×
+    SendersTo (seat .hall .settings .n) j (secondFrom seat (getD lists (seat .i) 0) table said) heard ×
     PlainHeard (seat .hall .settings) lists said heard
 
 abbrev μ-loop : tie.MeasureT-loop
-μ-loop base seat lists table said heard₀ n i list j₀ heard j = seat .hall .settings .n - j
+μ-loop seat lists table said heard₀ n i list j₀ heard j = seat .hall .settings .n - j
 
 -- the entry, from the loop
 abbrev entry : tie.At-loop Inv-loop μ-loop → tie.Start Inv-loop μ-loop
@@ -39,19 +38,18 @@ element-copy-out-list : tie.Need-element-copy-out-list Inv-loop μ-loop
 element-copy-out-list c = let p = c .before .before .pre in omega (arith, p .0 .below, p .0 .prepared .size .high)
 
 loop-holds : tie.Need-loop-holds Inv-loop μ-loop
-loop-holds c = (search needs, search needs, λ k j hk l. absurd (omega arith), c .before .before .before .pre .3)
+loop-holds c = (search needs, search needs, λ k j hk l. absurd (omega arith), c .before .before .before .pre .2)
 
 is-member-requires : tie.Need-is-member-requires Inv-loop μ-loop
 is-member-requires c κs = search needs
 
-hear-from-requires : tie.Need-hear-from-requires Inv-loop μ-loop
-hear-from-requires c κs =
+hear-second-from-requires : tie.Need-hear-second-from-requires Inv-loop μ-loop
+hear-second-from-requires c κs =
     let turn = c .before .before .before in
     let p = start turn .pre in (
       p .0 .prepared .ready,
       record { is-box = p .0 .below; is-leader = turn .loop-test .taken },
-      p .1,
-      turn .before .loop .inv .1 ∙ p .2,
+      turn .before .loop .inv .1 ∙ p .1,
     )
 
 add-j : tie.Need-add-j Inv-loop μ-loop
@@ -89,7 +87,7 @@ loop-again c =
     rw (w .1) (
       search needs,
       search needs,
-      plain-turn s (a .lists .now) (a .said .now) (a .base) (a .table .now) (a .seat .i)
+      plain-turn s (a .lists .now) (a .said .now) _ (a .table .now) (a .seat .i)
           (omega (arith, p .0 .below, p .0 .prepared .size .high))
           (so-far .j) (so-far .heard) below (is-odd (c .before) ∙ w .0 .left) (so-far .inv .3) (so-far .inv .2),
       so-far .inv .3,
@@ -102,8 +100,8 @@ same-length c = search needs
 returns : tie.Need-returns Inv-loop μ-loop
 returns c = (λ k j hk hj. c .before .loop .inv .2 k j hk (omega arith), c .before .loop .inv .3)
 
-pub hear-all-spec : {M : Type 1} → statement M
-hear-all-spec =
+pub hear-second-spec : {M : Type 1} → statement M
+hear-second-spec =
     tie.close
     (tie.spec
     Inv-loop
@@ -112,7 +110,7 @@ hear-all-spec =
     element-copy-out-list
     loop-holds
     is-member-requires
-    hear-from-requires
+    hear-second-from-requires
     add-j
     loop-less
     loop-again
