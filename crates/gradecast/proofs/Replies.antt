@@ -78,10 +78,11 @@ steps-sized s table e =
     record { low = ready .low; high = ready .high; tolerated = few (s .n) (s .t) table e }
 
 module _ (n t faulty : ℕ) (rows lists table : List ℕ) where
-  -- the confidences are those that the supports give; where a faulty box's support is 0 so is its confidence
+  -- the supports, with 0 in a faulty box's place
   abbrev supports : ℕ → ℕ → ℕ
   supports = ofSound faulty (supportFor n t faulty rows lists table)
 
+  -- the confidences are those that they give: a support of 0 gives 0
   confidences-are : cells n (λ i k. confidenceAt t (supports i k)) ≡
       cells n (ofSound faulty (confidence n t faulty rows lists table))
   unfolding ofSound
