@@ -30,10 +30,12 @@ getD-build (suc n) f k d h =
 pub build-ext : (n : ℕ) (f g : ℕ → ℕ) → ((k : ℕ) → k < n → f k ≡ g k) → build n f ≡ build n g
 unfolding build
 build-ext zero f g h = refl
-build-ext (suc n) f g h = ap₂ (λ (xs : List ℕ) (x : ℕ). xs ++ (x ∷ [])) (build-ext n f g (lower n h)) (h n (le-refl _))
+build-ext (suc n) f g h =
+    ap₂ (λ (xs : List ℕ) (x : ℕ). xs ++ (x ∷ [])) (build-ext n f g (lower n h)) (h n (le-refl _))
 
 -- a list that agrees with f at each of its n places
-pub built : (n : ℕ) (f : ℕ → ℕ) (xs : List ℕ) → length xs ≡ n → ((k : ℕ) → k < n → getD xs k 0 ≡ f k) → xs ≡ build n f
+pub built : (n : ℕ) (f : ℕ → ℕ) (xs : List ℕ) → length xs ≡ n → ((k : ℕ) → k < n → getD xs k 0 ≡ f k) →
+    xs ≡ build n f
 built n f xs e h =
     ext-getD 0 xs (build n f) (e ∙ sym (length-build n f))
     (λ k l. h k (omega arith) ∙ sym (getD-build n f k 0 (omega arith)))
@@ -43,8 +45,8 @@ pub front-none : (f : ℕ → ℕ) (xs : List ℕ) → xs ≡ front 0 f xs
 unfolding front build
 front-none f xs = refl
 
-pub front-turn : (n : ℕ) (f : ℕ → ℕ) (xs ys : List ℕ) {v : ℕ} → n < length xs → ys ≡ front n f xs → v ≡ f n →
-    set ys n v ≡ front (n + 1) f xs
+pub front-turn : (n : ℕ) (f : ℕ → ℕ) (xs ys : List ℕ) {v : ℕ} → n < length xs → ys ≡ front n f xs →
+    v ≡ f n → set ys n v ≡ front (n + 1) f xs
 unfolding front build
 front-turn n f xs ys {v} l e h =
     rw add-one
@@ -80,7 +82,8 @@ front-same n f xs l h =
     ∙ front-more 0 n f xs (omega arith) (λ k lk. rw zero-add (h k lk))
     ∙ ap (λ (q : ℕ). front q f xs) (omega arith)
 
-pub front-length : (n : ℕ) (f : ℕ → ℕ) (xs : List ℕ) → n ≤ length xs → length (front n f xs) ≡ length xs
+pub front-length : (n : ℕ) (f : ℕ → ℕ) (xs : List ℕ) → n ≤ length xs →
+    length (front n f xs) ≡ length xs
 unfolding front
 front-length n f xs l =
     length-append (build n f) (drop n xs) ∙ omega (arith, length-build n f, length-drop n xs)
@@ -114,14 +117,18 @@ unfolding front
 front-take n f xs = take-at (build n f) (drop n xs) n (length-build n f)
 
 -- a loop that has come to its bound has filled the whole front
-pub front-whole : {m n : ℕ} (f : ℕ → ℕ) (xs : List ℕ) {ys : List ℕ} → m ≡ n → ys ≡ front m f xs → ys ≡ front n f xs
+pub front-whole : {m n : ℕ} (f : ℕ → ℕ) (xs : List ℕ) {ys : List ℕ} → m ≡ n → ys ≡ front m f xs →
+    ys ≡ front n f xs
 front-whole f xs e h = h ∙ ap (λ (k : ℕ). front k f xs) e
 
 -- a front as long as the list is all of it
-pub front-all : (f : ℕ → ℕ) (xs : List ℕ) {ys : List ℕ} (n : ℕ) → length xs ≡ n → ys ≡ front n f xs → ys ≡ build n f
+pub front-all : (f : ℕ → ℕ) (xs : List ℕ) {ys : List ℕ} (n : ℕ) → length xs ≡ n → ys ≡ front n f xs →
+    ys ≡ build n f
 unfolding front
 front-all f xs n e h =
-    h ∙ ap (λ (zs : List ℕ). build n f ++ zs) (drop-of-length-le xs {i = n} (omega arith)) ∙ append-nil (build n f)
+    h
+    ∙ ap (λ (zs : List ℕ). build n f ++ zs) (drop-of-length-le xs {i = n} (omega arith))
+    ∙ append-nil (build n f)
 
 -- four places a turn
 pub front-four : (n : ℕ) (f : ℕ → ℕ) (xs ys : List ℕ) {a b c d : ℕ} → n + 4 ≤ length xs → ys ≡ front n f xs →
@@ -133,4 +140,5 @@ front-four n f xs ys l e ha hb hc hd =
   where
     next : (k : ℕ) {zs : List ℕ} {v : ℕ} → zs ≡ front (n + k) f xs → v ≡ f (n + k) → k < 4 →
         set zs (n + k) v ≡ front (n + (k + 1)) f xs
-    next k {zs} q h s = front-turn (n + k) f xs zs (omega arith) q h ∙ ap (λ (m : ℕ). front m f xs) (add-assoc n k 1)
+    next k {zs} q h s =
+        front-turn (n + k) f xs zs (omega arith) q h ∙ ap (λ (m : ℕ). front m f xs) (add-assoc n k 1)

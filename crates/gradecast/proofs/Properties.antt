@@ -40,7 +40,8 @@ record Witness (n faulty : ℕ) (f : ℕ → ℕ) (v : ℕ) : Type 0 where
 -- columns f and g, with at most t faulty boxes
 module _ {n t faulty : ℕ} (tolerated : Tolerated n t) (few : FewFaulty n t faulty) where
   -- what every sound box says is the vote, and has confidence 2
-  vote-all : (f : ℕ → ℕ) (v : ℕ) → (v ≡ 0 → ⊥) → ((j : ℕ) → SoundBox n faulty j → f j ≡ v) → voteOf t (build n f) ≡ v
+  vote-all : (f : ℕ → ℕ) (v : ℕ) → (v ≡ 0 → ⊥) → ((j : ℕ) → SoundBox n faulty j → f j ≡ v) →
+      voteOf t (build n f) ≡ v
   vote-all f v z h =
       vote-is t (build n f) (omega (arith, length-build n f)) v
       (record {
@@ -70,7 +71,8 @@ module _ {n t faulty : ℕ} (tolerated : Tolerated n t) (few : FewFaulty n t fau
         near n faulty f (λ j. 0) v h,
       )))
 
-  grade-silent : (f : ℕ → ℕ) → ((j : ℕ) → SoundBox n faulty j → f j ≡ 0) → confidenceOf t (build n f) ≡ 0
+  grade-silent : (f : ℕ → ℕ) → ((j : ℕ) → SoundBox n faulty j → f j ≡ 0) →
+      confidenceOf t (build n f) ≡ 0
   grade-silent f h = go (ℕ-discrete (confidenceOf t (build n f)) 0)
     where
       go : Dec (confidenceOf t (build n f) ≡ 0) → confidenceOf t (build n f) ≡ 0
@@ -83,7 +85,8 @@ module _ {n t faulty : ℕ} (tolerated : Tolerated n t) (few : FewFaulty n t fau
 
   -- where the sound boxes say the same in both columns, there are no two votes
   vote-one : (f g : ℕ → ℕ) → ((j : ℕ) → SoundBox n faulty j → f j ≡ g j) →
-      (voteOf t (build n f) ≡ 0 → ⊥) → (voteOf t (build n g) ≡ 0 → ⊥) → voteOf t (build n f) ≡ voteOf t (build n g)
+      (voteOf t (build n f) ≡ 0 → ⊥) → (voteOf t (build n g) ≡ 0 → ⊥) →
+      voteOf t (build n f) ≡ voteOf t (build n g)
   vote-one f g h y z =
       places-one (build n g) (voteOf t (build n f)) (voteOf t (build n g))
       (omega (
@@ -111,7 +114,8 @@ module _ {n t faulty : ℕ} (tolerated : Tolerated n t) (few : FewFaulty n t fau
       ))
 
   -- a row that counts was said by a sound box
-  grade-witness : (f : ℕ → ℕ) → (confidenceOf t (build n f) ≡ 0 → ⊥) → Witness n faulty f (gradedRow t (build n f))
+  grade-witness : (f : ℕ → ℕ) → (confidenceOf t (build n f) ≡ 0 → ⊥) →
+      Witness n faulty f (gradedRow t (build n f))
   grade-witness f z =
       record {
         at = b .at;
@@ -222,7 +226,8 @@ module _ {n t faulty : ℕ} {lists : List ℕ} (calm : Calm n t faulty lists) (r
       vote-one (calm .tolerated) (calm .few) (λ l. Xof i l k) (λ l. Xof j l k) (same-heard2 i j k si sj) y z
 
   -- a row that counts at a sound box is a sound box's vote
-  voter : (i k : ℕ) → SoundBox n faulty i → (sure i k ≡ 0 → ⊥) → Witness n faulty (λ l. Yof l k) (graded i k)
+  voter : (i k : ℕ) → SoundBox n faulty i → (sure i k ≡ 0 → ⊥) →
+      Witness n faulty (λ l. Yof l k) (graded i k)
   unfolding confidence gradeRow column3
   voter i k si z =
       let w = grade-witness (calm .tolerated) (calm .few) (λ l. Zof i l k) z in

@@ -17,6 +17,10 @@ start c = c .before .before .before .before .before
 abbrev sound-box : tie.After-hear-third → tie.Else1
 sound-box c = c .before .before .before
 
+-- the columns are there, from where all that step 4 puts is lent
+abbrev columns : tie.After-put-grades-arg3 → tie.After-hear-third
+columns c = c .before .before .before .before .before .before .before
+
 is-member-requires : tie.Need-is-member-requires
 is-member-requires c κs = search needs
 
@@ -34,7 +38,7 @@ hear-third-requires c κs = search needs
 
 put-grades-requires : tie.Need-put-grades-requires
 put-grades-requires c κs =
-    let heard = c .before .before .before .before .before .before .before in
+    let heard = columns c in
     let p = start (sound-box heard .before) .pre in
     let high = p .0 .prepared .size .high in (
       p .0 .prepared .size,
@@ -58,7 +62,7 @@ same-length-3 c = search needs
 returns-2 : tie.Need-returns-2
 returns-2 c =
     let put = c .before .before .before .before in
-    let heard = put .before .before .before .before .before .before .before .before in
+    let heard = columns (put .before) in
     let box = sound-box heard in
     let p = start (box .before) .pre in
     let is-sound = sym (box .before .is-member .ensures) ∙ box .if1 .left in
