@@ -2,3 +2,4 @@ pub mod Inside
 pub mod Iteration
 pub mod Legal
 pub mod State
+pub mod Why

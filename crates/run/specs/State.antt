@@ -8,18 +8,36 @@ use Rattle.counting.specs.Count.{any, build}
 use Rattle.counting.specs.Refuse.{firstOf}
 use Rattle.counting.specs.Refuse.Refusal.{refuse}
 use Rattle.sizes.specs.Sizes.{outside, tooMany, stray, sound, soundZero, tableRows}
+use Rattle.counting.specs.Sets.{member}
+use Rattle.tally.specs.Tally.{confidenceAt}
 use Rattle.gradecast.specs.Steps.{messageLimit}
+use Rattle.run.specs.declared.Reason.{Reason}
+use Rattle.run.specs.declared.Reasons.{Reasons}
 use Rattle.run.specs.declared.Run.{Run}
 use Rattle.run.specs.declared.Next.{Next}
-use Rattle.run.specs.Iteration.{entry, nextRun}
+use Rattle.run.specs.Iteration.{entry, reasonAt, nextRun}
 
 -- the places of a start that hold a row: sound boxes below n
 unfoldable pub startRow : ℕ → ℕ → List ℕ → ℕ → ℕ
 startRow n faulty rows = entry n faulty (λ k. getD rows k 0)
 
+-- no reasons are kept
+unfoldable pub noReasons : Reasons
+noReasons = record { iterations = replicate 169 0; confidences = replicate 169 0; supports = replicate 169 0 }
+
 -- a state of zeros
 unfoldable pub zeros : Run
-zeros = record { n = 0; t = 0; faulty = 0; done = 0; sent = 0; rows = replicate 13 0; lists = replicate 13 0 }
+zeros =
+    record {
+      n = 0;
+      t = 0;
+      faulty = 0;
+      done = 0;
+      sent = 0;
+      rows = replicate 13 0;
+      lists = replicate 13 0;
+      reasons = noReasons;
+    }
 
 -- the refusals of a start: 4, 5, 6, 11, 9
 unfoldable pub startRefusal : ℕ → ℕ → ℕ → List ℕ → ℕ
@@ -32,7 +50,7 @@ startRefusal n t faulty rows =
     refuse 9 (soundZero n faulty rows) ∷
     [])
 
--- the state at the start: rows of faulty boxes stand as 0, lists are empty
+-- the state at the start: rows of faulty boxes stand as 0, lists are empty, and no reasons are kept
 unfoldable pub startRun : ℕ → ℕ → ℕ → List ℕ → Run
 startRun n t faulty rows =
     record {
@@ -43,6 +61,7 @@ startRun n t faulty rows =
       sent = 0;
       rows = build 13 (startRow n faulty rows);
       lists = replicate 13 0;
+      reasons = noReasons;
     }
 
 -- a refused start gives a state of zeros
@@ -65,6 +84,47 @@ badPlace s k = badEntry (s .n) (s .faulty) k (getD (s .rows) k 0) (getD (s .list
 unfoldable pub tooManySent : Run → Bool
 tooManySent s = ltb (s .done * messageLimit (s .n)) (s .sent)
 
+-- is box k on the list of box i?
+unfoldable pub listedBy : Run → ℕ → ℕ → Bool
+listedBy s i k = member (getD (s .lists) i 0) k
+
+-- anything is kept
+unfoldable pub kept : Reason → Bool
+kept r = not (eqb (r .iteration) 0) || not (eqb (r .confidence) 0) || not (eqb (r .support) 0)
+
+-- refusal 14: a listing without its iteration
+unfoldable pub unsaid : Bool → Reason → Bool
+unsaid listed r = listed && eqb (r .iteration) 0
+
+-- refusal 14: anything kept without a listing
+unfoldable pub unlisted : Bool → Reason → Bool
+unlisted listed r = not listed && kept r
+
+-- refusal 14: an iteration not yet done
+unfoldable pub notYetDone : ℕ → Reason → Bool
+notYetDone done r = ltb done (r .iteration)
+
+-- refusal 14: a confidence above 1
+unfoldable pub tooSure : Reason → Bool
+tooSure r = ltb 1 (r .confidence)
+
+-- refusal 14: a support that does not fit the confidence. 0 takes at most t, 1 more than t and less than 2t + 1
+unfoldable pub unfit : ℕ → Reason → Bool
+unfit t r = not (eqb (confidenceAt t (r .support)) (r .confidence))
+
+-- refusal 14 of a reason
+unfoldable pub badReason : ℕ → ℕ → Bool → Reason → Bool
+badReason t done listed r =
+    unsaid listed r || unlisted listed r || notYetDone done r || tooSure r || unfit t r
+
+-- refusal 14 of the reasons of box i
+unfoldable pub badReasons : Run → ℕ → Bool
+badReasons s i = any 13 (λ k. badReason (s .t) (s .done) (listedBy s i k) (reasonAt s i k))
+
+-- refusal 14 of a state
+unfoldable pub badState : Run → Bool
+badState s = any 13 (badPlace s) || tooManySent s || any 13 (badReasons s)
+
 -- the refusals of an iteration: 4, 5, 6, 9, 11, 12, 14
 unfoldable pub iterateRefusal : Run → List ℕ → ℕ
 iterateRefusal s table =
@@ -75,7 +135,7 @@ iterateRefusal s table =
     refuse 9 (soundZero (s .n) (s .faulty) (s .rows)) ∷
     refuse 11 (not (eqb (length table) (tableRows (s .n)))) ∷
     refuse 12 (ltb (s .t) (s .done)) ∷
-    refuse 14 (any 13 (badPlace s) || tooManySent s) ∷
+    refuse 14 (badState s) ∷
     [])
 
 -- a refused iteration returns the state as it came
