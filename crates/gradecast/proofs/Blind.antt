@@ -11,9 +11,9 @@ use Rattle.counting.specs.Sets.{member}
 use Rattle.counting.proofs.Build.{build-ext}
 use Rattle.counting.proofs.Count.{sum-ext, count-ext}
 use Rattle.sizes.specs.Sizes.{sound}
-use Rattle.tally.specs.Tally.{voteOf, confidenceOf, gradedRow}
+use Rattle.tally.specs.Tally.{voteOf, confidenceOf, gradedRow, supportOf}
 use Rattle.gradecast.specs.Steps.{place1, place2, place3, sends, hears, sent1, heard1, heard2, column2, sentTo}
-use Rattle.gradecast.specs.Steps.{voted, heard3, column3, confidence, gradeRow, messages}
+use Rattle.gradecast.specs.Steps.{voted, heard3, column3, confidence, gradeRow, supportFor, messages}
 use Rattle.gradecast.specs.Lies.{SameLies}
 use Rattle.gradecast.proofs.Messages.{sentByOne, messages-quick}
 
@@ -55,6 +55,11 @@ module _ (n t faulty : ℕ) (rows lists a b : List ℕ) (same : SameLies n fault
       confidence n t faulty rows lists a i k ≡ confidence n t faulty rows lists b i k
   unfolding confidence
   confidence-same i k li lk = ap (confidenceOf t) (column3-same i k li lk)
+
+  pub support-same : (i k : ℕ) → i < n → k < n →
+      supportFor n t faulty rows lists a i k ≡ supportFor n t faulty rows lists b i k
+  unfolding supportFor
+  support-same i k li lk = ap supportOf (column3-same i k li lk)
 
   pub grade-row-same : (i k : ℕ) → i < n → k < n →
       gradeRow n t faulty rows lists a i k ≡ gradeRow n t faulty rows lists b i k

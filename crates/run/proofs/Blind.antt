@@ -1,6 +1,6 @@
 -- What is never read. A start puts 0 in the places of faulty boxes and tests the rows of sound boxes alone, so slices
 -- that differ in faulty boxes' rows start alike. In a table, entries in a sound sender's place are not read: two
--- tables that differ only there give the same grades and messages, so the same rows and lists, and where they are
+-- tables that differ only there give the same grades and messages, so the same rows, lists and reasons, and where they are
 -- equally long the same refusal; and so a whole run of such tables, since n and the faulty set stay. Assumes nothing.
 use mathlib.Core.Path.{_≡_, refl, sym, ap, ap₂, _∙_, subst₂}
 use mathlib.Core.Bool.{Bool, true, false, cond, _&&_, _||_}
@@ -20,15 +20,30 @@ use Rattle.tally.specs.Tally.{chosenRow}
 use Rattle.gradecast.specs.Steps.{confidence, gradeRow}
 use Rattle.gradecast.specs.Fair.{SoundBox}
 use Rattle.gradecast.specs.Lies.{SameLies}
-use Rattle.gradecast.proofs.Blind.{confidence-same, grade-row-same, messages-same}
+use Rattle.gradecast.proofs.Blind.{confidence-same, grade-row-same, support-same, messages-same}
 use Rattle.run.specs.declared.Run.{Run}
 use Rattle.run.specs.declared.Next.{Next}
-use Rattle.run.specs.Iteration.{gradedRows, confidences, newRow, newList, entry, nextRun}
+use Rattle.run.specs.Iteration.{
+  gradedRows,
+  confidences,
+  newRow,
+  newList,
+  entry,
+  reasonAt,
+  reasonsOf,
+  joined,
+  joinsNow,
+  reasonNow,
+  newReason,
+  nextRun,
+}
+use Rattle.run.proofs.Kept.{joins-is}
 use Rattle.run.specs.State.{
   startRefusal,
   startRow,
   startRun,
   startReply,
+  noReasons,
   zeros,
   iterateRefusal,
   iterateReply,
@@ -74,6 +89,7 @@ module _ (n t faulty : ℕ) (a b : List ℕ) (whole : length a ≡ length b)
         sent = 0;
         rows = rows;
         lists = replicate 13 0;
+        reasons = noReasons;
       })
       (places-same n faulty (λ k. getD a k 0) (λ k. getD b k 0) same)
 
@@ -110,6 +126,43 @@ module _ (s : Run) (a b : List ℕ) (same : SameLies (s .n) (s .faulty) a b) whe
       ap (λ (cs : List ℕ). setOf (s .n) (λ k. member (getD (s .lists) i 0) k || ltb (getD cs k 0) 2))
       (confidences-same i l)
 
+  -- a place's entry of the new lists
+  entry-same : (i : ℕ) → entry (s .n) (s .faulty) (newList s a) i ≡ entry (s .n) (s .faulty) (newList s b) i
+  unfolding entry
+  entry-same i = go (ltb i (s .n) && sound (s .faulty) i) refl
+    where
+      go : (c : Bool) → (ltb i (s .n) && sound (s .faulty) i) ≡ c → cond c (newList s a i) 0 ≡ cond c (newList s b i) 0
+      go true e = new-list-same i (ltb-true i (s .n) (and-left _ (sound (s .faulty) i) e))
+      go false e = refl
+
+  joins-same : (i k : ℕ) → joinsNow s a i k ≡ joinsNow s b i k
+  unfolding joinsNow
+  joins-same i k = ap (λ (new : ℕ). joined (getD (s .lists) i 0) new k) (entry-same i)
+
+  -- only a box of the n joins, and only the list of one
+  reason-now-same : (i k : ℕ) → joinsNow s a i k ≡ true → reasonNow s a i k ≡ reasonNow s b i k
+  unfolding reasonNow
+  reason-now-same i k h =
+      let j = joins-is s a i k h in
+      let li = j .of-box .below in
+      λ d.
+      record {
+        iteration = s .done + 1;
+        confidence = confidence-same (s .n) (s .t) (s .faulty) (s .rows) (s .lists) a b same i k li (j .is-one) d;
+        support = support-same (s .n) (s .t) (s .faulty) (s .rows) (s .lists) a b same i k li (j .is-one) d;
+      }
+
+  new-reason-same : (i k : ℕ) → newReason s a i k ≡ newReason s b i k
+  unfolding newReason
+  new-reason-same i k =
+      go (joinsNow s a i k) refl
+      ∙ ap (λ (c : Bool). cond c (reasonNow s b i k) (reasonAt s i k)) (joins-same i k)
+    where
+      go : (c : Bool) → joinsNow s a i k ≡ c →
+          cond c (reasonNow s a i k) (reasonAt s i k) ≡ cond c (reasonNow s b i k) (reasonAt s i k)
+      go true e = reason-now-same i k e
+      go false e = refl
+
   next-same : nextRun s a ≡ nextRun s b
   unfolding nextRun
   next-same =
@@ -122,6 +175,7 @@ module _ (s : Run) (a b : List ℕ) (same : SameLies (s .n) (s .faulty) a b) whe
         sent = s .sent + messages-same (s .n) (s .t) (s .faulty) (s .rows) (s .lists) a b same d;
         rows = places-same (s .n) (s .faulty) (newRow s a) (newRow s b) (λ i b. new-row-same i (b .below)) d;
         lists = places-same (s .n) (s .faulty) (newList s a) (newList s b) (λ i b. new-list-same i (b .below)) d;
+        reasons = reasonsOf (λ i k. new-reason-same i k d);
       }
 
   refusal-same : length a ≡ length b → iterateRefusal s a ≡ iterateRefusal s b

@@ -1,7 +1,8 @@
 -- What a start or an iteration gives without refusal is never refused by 4, 5, 6, 9 or 14: n, t and the faulty set
 -- stay; a sound box's new row is a row that was chosen, or its old row; a new list is a set of boxes below n; every
--- other place is 0; and one iteration keeps within its limit of messages. Assumes nothing.
-use mathlib.Core.Path.{_≡_, refl, sym, _∙_, subst}
+-- other place is 0; one iteration keeps within its limit of messages; and a box that joins gets a whole reason, while
+-- those of the others stay. Assumes nothing.
+use mathlib.Core.Path.{_≡_, refl, sym, ap, _∙_, subst}
 use mathlib.Core.Bool.{Bool, true, false, cond, not, _&&_, _||_}
 use mathlib.Core.List.{List}
 use Prim.Native.Nat.{ℕ, _+_, _*_, _^_, _≤_, _<_}
@@ -10,19 +11,45 @@ use native.Mathlib.Omega.{arith}
 use lib.Dec.{eqb, ltb}
 use lib.ListN.{getD}
 use lib.Pow.{pow-pos}
-use borrow.Author.Tests.{eq-eqb, le-ltb}
+use borrow.Author.Tests.{eqb-true, eq-eqb, ltb-true, ltb-false, le-ltb}
+use Rattle.counting.specs.Count.{any}
 use Rattle.counting.specs.Sets.{member}
-use Rattle.counting.proofs.Bools.{never, not-of-true, or-none, cond-true}
-use Rattle.counting.proofs.Count.{none-any}
-use Rattle.counting.proofs.Sets.{setOf-lt}
+use Rattle.counting.proofs.Bools.{
+  never,
+  both,
+  not-both,
+  and-false-right,
+  not-of-true,
+  not-of-false,
+  not-false,
+  or-none,
+  or-true-left,
+  or-false-right,
+  cond-true,
+  cond-false,
+}
+use Rattle.counting.proofs.Count.{none-any, any-none}
+use Rattle.counting.proofs.Sets.{setOf-lt, member-above, member-empty}
 use Rattle.sizes.specs.Sizes.{stray, sound, Startable}
 use Rattle.sizes.proofs.Laws.{inside-high, lt-within}
-use Rattle.gradecast.specs.Steps.{messages, messageLimit}
+use Rattle.gradecast.specs.Steps.{confidence, messages, messageLimit}
 use Rattle.gradecast.specs.Fair.{SoundBox, SoundRowsNotZero}
 use Rattle.gradecast.proofs.Boxes.{is-box, box-is}
 use Rattle.gradecast.proofs.Messages.{messages-bound}
 use Rattle.run.specs.declared.Run.{Run}
-use Rattle.run.specs.Iteration.{confidences, newList, nextRun}
+use Rattle.run.specs.declared.Reason.{Reason}
+use Rattle.run.specs.Iteration.{
+  confidences,
+  newList,
+  entry,
+  noReason,
+  reasonAt,
+  joined,
+  joinsNow,
+  reasonNow,
+  newReason,
+  nextRun,
+}
 use Rattle.run.specs.State.{
   badEntry,
   startRefusal,
@@ -31,11 +58,17 @@ use Rattle.run.specs.State.{
   zeros,
   badPlace,
   tooManySent,
+  listedBy,
+  badReason,
+  badReasons,
   iterateRefusal,
   iterateReply,
 }
 use Rattle.run.specs.Legal.{Legal}
-use Rattle.run.proofs.Fits.{sent-within}
+use Rattle.gradecast.proofs.Grades.{confidence-by}
+use Rattle.run.proofs.Entries.{bad-none}
+use Rattle.run.proofs.Fits.{sent-within, list-below}
+use Rattle.run.proofs.Listings.{Listing, good-listed, listed-good, unlisted-none, none-good}
 use Rattle.run.proofs.Kept.{
   start-row,
   start-list,
@@ -44,6 +77,11 @@ use Rattle.run.proofs.Kept.{
   next-list,
   next-unused,
   new-row-not-zero,
+  start-reason,
+  next-listed,
+  next-reason,
+  entry-member,
+  joins-is,
 }
 use Rattle.run.proofs.Accepted.{is-accepted, is-start-accepted, rows-not-zero, not-zero-rows}
 
@@ -62,6 +100,51 @@ good-place s k inner outer = go (ltb k (s .n) && sound (s .faulty) k) refl
         let z = outer (λ b. never (is-box b) e) in
         or-none (not-of-true (eq-eqb (getD (s .rows) k 0) 0 (z .0)))
         (not-of-true (eq-eqb (getD (s .lists) k 0) 0 (z .1)))
+
+listed-member : (s : Run) (i k : ℕ) → listedBy s i k ≡ true → member (getD (s .lists) i 0) k ≡ true
+unfolding listedBy
+listed-member s i k h = h
+
+-- who may be on a list of a legal state: a box of the n on that of a sound box
+module _ (s : Run) (legal : Legal s) (i k : ℕ) (li : i < 13) (listed : listedBy s i k ≡ true) where
+  pub listing-box : SoundBox (s .n) (s .faulty) i
+  unfolding listedBy badPlace
+  listing-box = box-is (s .n) (s .faulty) i (go (ltb i (s .n) && sound (s .faulty) i) refl)
+    where
+      go : (b : Bool) → (ltb i (s .n) && sound (s .faulty) i) ≡ b → (ltb i (s .n) && sound (s .faulty) i) ≡ true
+      go true e = e
+      go false e =
+          let row = getD (s .rows) i 0 in
+          let list = getD (s .lists) i 0 in
+          let good = bad-none (s .n) (s .faulty) i row list e ∙ any-none 13 (badPlace s) (legal .pass14-places) i li in
+          let zero : list ≡ 0 = eqb-true list 0 (not-false (eqb list 0) (or-false-right (not (eqb row 0)) _ good)) in
+          never listed (subst (λ (l : ℕ). member l k ≡ false) (sym zero) (member-empty k))
+
+  pub listed-one : k < s .n
+  unfolding listedBy
+  listed-one = ltb-true k (s .n) (go (ltb k (s .n)) refl)
+    where
+      go : (b : Bool) → ltb k (s .n) ≡ b → ltb k (s .n) ≡ true
+      go true e = e
+      go false e =
+          never listed
+          (member-above (s .n) (getD (s .lists) i 0) k (list-below s legal i listing-box) (ltb-false k (s .n) e))
+
+-- what a legal state keeps: of a listed box a whole reason, and of any other nothing
+module _ (s : Run) (legal : Legal s) (i k : ℕ) (li : i < 13) (lk : k < 13) where
+  good-one : badReason (s .t) (s .done) (listedBy s i k) (reasonAt s i k) ≡ false
+  unfolding badReasons
+  good-one = any-none 13 _ (any-none 13 (badReasons s) (legal .pass14-reasons) i li) k lk
+
+  pub legal-listing : listedBy s i k ≡ true → Listing (s .t) (s .done) (reasonAt s i k)
+  legal-listing h =
+      listed-good (s .t) (s .done) (reasonAt s i k)
+      (subst (λ (b : Bool). badReason (s .t) (s .done) b (reasonAt s i k) ≡ false) h good-one)
+
+  pub legal-none : listedBy s i k ≡ false → reasonAt s i k ≡ noReason
+  legal-none h =
+      unlisted-none (s .t) (s .done) (reasonAt s i k)
+      (subst (λ (b : Bool). badReason (s .t) (s .done) b (reasonAt s i k) ≡ false) h good-one)
 
 -- the state after an iteration that was not refused
 module _ (s : Run) (table : List ℕ) (legal : Legal s) where
@@ -92,6 +175,73 @@ module _ (s : Run) (table : List ℕ) (legal : Legal s) where
         messages-bound (s .n) (s .t) (s .faulty) (s .rows) (s .lists) table,
       ))
 
+  -- a box that was listed is so still, and keeps its reason
+  pub stays-listed : (i k : ℕ) → i < 13 → listedBy s i k ≡ true → listedBy (nextRun s table) i k ≡ true
+  stays-listed i k li h =
+      let b = listing-box s legal i k li h in
+      let l = listed-one s legal i k li h in
+      next-listed s table i k li ∙ entry-member s table i k b l ∙ or-true-left _ (listed-member s i k h)
+
+  pub reason-stays : (i k : ℕ) → i < 13 → k < 13 → joinsNow s table i k ≡ false →
+      reasonAt (nextRun s table) i k ≡ reasonAt s i k
+  unfolding newReason
+  reason-stays i k li lk h = next-reason s table i k li lk ∙ cond-false (reasonNow s table i k) (reasonAt s i k) h
+
+  pub reason-joins : (i k : ℕ) → i < 13 → k < 13 → joinsNow s table i k ≡ true →
+      reasonAt (nextRun s table) i k ≡ reasonNow s table i k
+  unfolding newReason
+  reason-joins i k li lk h = next-reason s table i k li lk ∙ cond-true (reasonNow s table i k) (reasonAt s i k) h
+
+  -- who joins is on the new list, and was not on the old one
+  pub joins-listed : (i k : ℕ) → i < 13 → joinsNow s table i k ≡
+      (listedBy (nextRun s table) i k && not (listedBy s i k))
+  unfolding joinsNow joined listedBy
+  joins-listed i k li =
+      ap (λ (new : Bool). new && not (member (getD (s .lists) i 0) k)) (sym (next-listed s table i k li))
+
+  -- the reason of a box that joins is whole
+  now-whole : (i k : ℕ) → joinsNow s table i k ≡ true → Listing (s .t) (s .done + 1) (reasonNow s table i k)
+  unfolding reasonNow
+  now-whole i k h =
+      let unsure = joins-is s table i k h .unsure in
+      record {
+        from-1 = omega arith;
+        is-done = omega arith;
+        at-most-1 = omega (arith, unsure);
+        fitting = sym (confidence-by (s .n) (s .t) (s .faulty) (s .rows) (s .lists) table i k);
+      }
+
+  next-good : (i k : ℕ) → i < 13 → k < 13 → (before after : Bool) → listedBy s i k ≡ before →
+      listedBy (nextRun s table) i k ≡ after →
+      badReason (s .t) (s .done + 1) after (reasonAt (nextRun s table) i k) ≡ false
+  next-good i k li lk true true e f =
+      let l = legal-listing s legal i k li lk e in
+      let new = listedBy (nextRun s table) i k in
+      let stays = reason-stays i k li lk (joins-listed i k li ∙ and-false-right new (not-of-true e)) in
+      let r = reasonAt s i k in
+      subst (λ (r : Reason). badReason (s .t) (s .done + 1) true r ≡ false) (sym stays)
+      (good-listed (s .t) (s .done + 1) r
+      (record {
+        from-1 = l .from-1;
+        is-done = omega (arith, l .is-done);
+        at-most-1 = l .at-most-1;
+        fitting = l .fitting;
+      }))
+  next-good i k li lk true false e f = never (stays-listed i k li e) f
+  next-good i k li lk false true e f =
+      let now = joins-listed i k li ∙ both f (not-of-false e) in
+      subst (λ (r : Reason). badReason (s .t) (s .done + 1) true r ≡ false) (sym (reason-joins i k li lk now))
+      (good-listed (s .t) (s .done + 1) (reasonNow s table i k) (now-whole i k now))
+  next-good i k li lk false false e f =
+      let stays = reason-stays i k li lk (joins-listed i k li ∙ not-both (not (listedBy s i k)) f) in
+      subst (λ (r : Reason). badReason (s .t) (s .done + 1) false r ≡ false)
+      (sym (stays ∙ legal-none s legal i k li lk e)) (none-good (s .t) (s .done + 1))
+
+  next-reasons : any 13 (badReasons (nextRun s table)) ≡ false
+  unfolding badReasons nextRun
+  next-reasons =
+      none-any 13 _ (λ i li. none-any 13 _ (λ k lk. next-good i k li lk _ _ refl refl))
+
   pub next-legal : Legal (nextRun s table)
   unfolding nextRun
   next-legal =
@@ -104,6 +254,7 @@ module _ (s : Run) (table : List ℕ) (legal : Legal s) where
             none-any 13 (badPlace (nextRun s table))
             (λ k l. good-place (nextRun s table) k (next-within k) (next-unused s table k l));
         pass14-sent = next-sent;
+        pass14-reasons = next-reasons;
       }
 
 -- the state after a start that was not refused
@@ -112,6 +263,20 @@ module _ (n t faulty : ℕ) (rows : List ℕ) (a : Startable n t faulty rows) wh
   start-not-zero k b e =
       rows-not-zero n faulty rows (a .pass9) k b
       (sym (start-row n t faulty rows k (inside-high n (a .pass4)) b) ∙ e)
+
+  -- nobody is listed, and nothing is kept
+  pub start-listed : (i k : ℕ) → i < 13 → listedBy (startRun n t faulty rows) i k ≡ false
+  unfolding listedBy
+  start-listed i k li =
+      ap (λ (list : ℕ). member list k) (start-list n t faulty rows i li) ∙ member-empty k
+
+  start-good : (i k : ℕ) → i < 13 → k < 13 →
+      badReason t 0 (listedBy (startRun n t faulty rows) i k) (reasonAt (startRun n t faulty rows) i k) ≡ false
+  start-good i k li lk = rw (start-listed i k li, start-reason n t faulty rows i k li lk) (none-good t 0)
+
+  start-reasons : any 13 (badReasons (startRun n t faulty rows)) ≡ false
+  unfolding badReasons startRun
+  start-reasons = none-any 13 _ (λ i li. none-any 13 _ (λ k lk. start-good i k li lk))
 
   pub start-legal : Legal (startRun n t faulty rows)
   unfolding startRun tooManySent
@@ -128,6 +293,7 @@ module _ (n t faulty : ℕ) (rows : List ℕ) (a : Startable n t faulty rows) wh
             (λ b. subst (λ (list : ℕ). list < 2 ^ n) (sym (start-list n t faulty rows k l)) (pow-pos n))
             (λ e. (start-unused n t faulty rows k l e, start-list n t faulty rows k l)));
         pass14-sent = le-ltb (0 * messageLimit n) 0 (omega arith);
+        pass14-reasons = start-reasons;
       }
 
 -- the replies

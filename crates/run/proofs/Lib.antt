@@ -6,6 +6,7 @@ pub mod Course
 pub mod Entries
 pub mod Fits
 pub mod Kept
+pub mod Listings
 pub mod Parts
 pub mod Refusals
 pub mod Whole

@@ -21,8 +21,7 @@ use Rattle.run.specs.State.{
   startRun,
   startReply,
   zeros,
-  badPlace,
-  tooManySent,
+  badState,
   iterateRefusal,
   iterateReply,
 }
@@ -90,7 +89,7 @@ module _ (s : Run) (table : List ℕ) where
       (refuse 9 (soundZero (s .n) (s .faulty) (s .rows)) ∷
       refuse 11 (not (eqb (length table) (tableRows (s .n)))) ∷
       refuse 12 (ltb (s .t) (s .done)) ∷
-      refuse 14 (any 13 (badPlace s) || tooManySent s) ∷
+      refuse 14 (badState s) ∷
       [])
   unfolding iterateRefusal firstOf
   iterate-goes-on e = let p = setting-passes (s .n) (s .t) (s .faulty) e in rw (p .pass4, p .pass5, p .pass6) refl

@@ -1,30 +1,66 @@
 -- One iteration put together: an accepted call is ready for steps 1 to 4, their reply is what step 5 is given, the
 -- counters stay small, and the parts are the next state of the definitions. Assumes nothing.
-use mathlib.Core.Path.{_≡_, refl, sym, ap, _∙_}
-use mathlib.Core.Bool.{Bool, true, false, cond, _&&_}
+use mathlib.Core.Path.{_≡_, refl, sym, ap, ap₂, _∙_}
+use mathlib.Core.Bool.{Bool, true, false, cond, not, _&&_}
 use mathlib.Core.List.{List}
-use Prim.Native.Nat.{ℕ, _+_, _*_, _≤_, _<_}
+use mathlib.Core.Logic.{⊎-elim}
+use Prim.Native.Nat.{ℕ, _+_, _*_, _/_, _%_, _≤_, _<_}
 use native.Mathlib.Omega.{arith}
-use lib.Dec.{ltb}
-use lib.ListN.{length}
+use lib.Dec.{eqb, ltb}
+use lib.ListN.{length, getD, List·getD-eq-default}
+use borrow.Author.Tests.{eqb-true, ltb-true, ltb-false, le-ltb}
 use Rattle.counting.specs.Count.{build}
-use Rattle.counting.proofs.Build.{build-ext}
+use Rattle.counting.specs.Sets.{member}
+use Rattle.counting.proofs.Bools.{either, not-both, not-false, or-false-right, cond-false}
+use Rattle.counting.proofs.Build.{build-ext, length-build, getD-build, front-all}
+use Rattle.counting.proofs.Count.{any-none}
 use Rattle.sizes.specs.Sizes.{sound}
 use Rattle.sizes.proofs.Laws.{inside-low, inside-high, tolerated-lt}
 use Rattle.gradecast.specs.declared.Cast.{Cast}
+use Rattle.gradecast.specs.Fair.{SoundBox}
 use Rattle.gradecast.specs.Steps.{messages}
 use Rattle.gradecast.specs.Cast.{castOf, castReply}
 use Rattle.gradecast.specs.Inside.{Ready}
+use Rattle.gradecast.proofs.Boxes.{box-is}
 use Rattle.gradecast.proofs.Cells.{length-cells}
 use Rattle.gradecast.proofs.Messages.{messages-bound, limit-le}
 use Rattle.gradecast.proofs.Replies.{cast-taken, ready-passes}
+use Rattle.run.specs.declared.Joining.{Joining}
+use Rattle.run.specs.declared.Reason.{Reason}
+use Rattle.run.specs.declared.Reasons.{Reasons}
 use Rattle.run.specs.declared.Run.{Run}
-use Rattle.run.specs.Inside.{GradesOf, AllCells, listFrom}
-use Rattle.run.specs.Iteration.{entry, newRow, newList, nextRun}
+use Rattle.run.specs.Inside.{
+  GradesOf,
+  AllCells,
+  Keeping,
+  cellOf,
+  rowFrom,
+  listFrom,
+  joinsIn,
+  keptTo,
+  keptReasons,
+}
+use Rattle.run.specs.Iteration.{
+  entry,
+  newRow,
+  newList,
+  reasonFrom,
+  reasonIn,
+  reasonAt,
+  reasonsOf,
+  joined,
+  joinsNow,
+  reasonNow,
+  newReason,
+  nextRun,
+}
+use Rattle.run.specs.State.{badPlace}
 use Rattle.run.proofs.Accepted.{Iterable}
-use Rattle.run.proofs.Entries.{is-box, is-sound}
+use Rattle.run.proofs.Entries.{bad-none}
 use Rattle.run.proofs.Fits.{sent-at-most}
-use Rattle.run.proofs.Parts.{list-of}
+use Rattle.run.proofs.Kept.{Joins, joins-by, joins-none, joins-above, joins-is}
+use Rattle.run.proofs.Listings.{place-again}
+use Rattle.run.proofs.Parts.{confidence-cell, support-cell, row-of, list-of}
 
 module _ (s : Run) (table : List ℕ) (a : Iterable s table) where
   pub low : 1 ≤ s .n
@@ -66,16 +102,16 @@ module _ (s : Run) (table : List ℕ) (a : Iterable s table) where
         )
 
     -- the reply of steps 1 to 4 is what step 5 is given
-    pub grades : GradesOf s table (r .rows) (r .confidences)
+    pub grades : GradesOf s table (r .rows) (r .confidences) (r .supports)
     unfolding castOf
     grades =
         record {
           found-rows = ap (λ (c : Cast). c .rows) found;
-          found-confidences = ap
-              (λ (c : Cast). c .confidences) found;
+          found-confidences = ap (λ (c : Cast). c .confidences) found;
+          found-supports = ap (λ (c : Cast). c .supports) found;
         }
 
-    pub cast-cells : AllCells s (r .rows) (r .confidences)
+    pub cast-cells : AllCells (s .n) (r .rows) (r .confidences)
     cast-cells =
         record {
           low = low;
@@ -84,25 +120,140 @@ module _ (s : Run) (table : List ℕ) (a : Iterable s table) where
           all-confidences = ap length (grades .found-confidences) ∙ length-cells (s .n) _ high;
         }
 
-    lists-are : build 13 (entry (s .n) (s .faulty) (listFrom s (r .confidences))) ≡ build 13
-        (entry (s .n) (s .faulty) (newList s table))
+    supports-long : length (r .supports) ≡ 169
+    supports-long = ap length (grades .found-supports) ∙ length-cells (s .n) _ high
+
+    -- the rows and the lists of step 5 are those of the definitions
+    places-are : (f : ℕ → ℕ → ℕ) (g : ℕ → ℕ) → ((i : ℕ) → SoundBox (s .n) (s .faulty) i → f i i ≡ g i) →
+        build 13 (λ i. entry (s .n) (s .faulty) (f i) i) ≡ build 13 (entry (s .n) (s .faulty) g)
     unfolding entry
-    lists-are =
-        build-ext 13 (entry (s .n) (s .faulty) (listFrom s (r .confidences)))
-        (entry (s .n) (s .faulty) (newList s table))
-        (λ i l. go i (ltb i (s .n) && sound (s .faulty) i) refl)
+    places-are f g h =
+        build-ext 13 _ _ (λ i l. go i (ltb i (s .n) && sound (s .faulty) i) refl)
       where
-        go : (i : ℕ) (b : Bool) → ltb i (s .n) && sound (s .faulty) i ≡ b →
-            cond b (listFrom s (r .confidences) i) 0 ≡ cond b (newList s table i) 0
-        go i false h = refl
-        go i true h =
-            list-of s i low high
-            (record { is-box = is-box (s .n) (s .faulty) i h; is-sound = is-sound (s .n) (s .faulty) i h })
-            table (r .rows) (r .confidences) grades
+        go : (i : ℕ) (b : Bool) → (ltb i (s .n) && sound (s .faulty) i) ≡ b → cond b (f i i) 0 ≡ cond b (g i) 0
+        go i false e = refl
+        go i true e = h i (box-is (s .n) (s .faulty) i e)
+
+    pub rows-are :
+        build 13 (λ i. entry (s .n) (s .faulty) (rowFrom (s .n) (getD (s .rows) i 0) (r .rows) (r .confidences)) i)
+        ≡ build 13 (entry (s .n) (s .faulty) (newRow s table))
+    rows-are =
+        places-are (λ i. rowFrom (s .n) (getD (s .rows) i 0) (r .rows) (r .confidences)) (newRow s table)
+        (λ i b.
+        row-of s i low high b table (r .rows) (r .confidences) (r .supports) grades
+        (cast-cells .all-rows) (cast-cells .all-confidences))
+
+    pub lists-are :
+        build 13 (λ i. entry (s .n) (s .faulty) (listFrom (s .n) (getD (s .lists) i 0) (r .confidences)) i)
+        ≡ build 13 (entry (s .n) (s .faulty) (newList s table))
+    lists-are =
+        places-are (λ i. listFrom (s .n) (getD (s .lists) i 0) (r .confidences)) (newList s table)
+        (λ i b. list-of s i low high b table (r .rows) (r .confidences) (r .supports) grades)
+
+    -- the reasons of step 5, from the lists before and after
+    module _ (lists : List ℕ) (are : lists ≡ build 13 (entry (s .n) (s .faulty) (newList s table))) where
+      abbrev joining : Joining
+      joining = record { n = s .n; iteration = s .done + 1; old = s .lists; new = lists }
+
+      new-at : (i : ℕ) → getD lists i 0 ≡ entry (s .n) (s .faulty) (newList s table) i
+      unfolding entry
+      new-at i =
+          let new = entry (s .n) (s .faulty) (newList s table) in
+          ap (λ (xs : List ℕ). getD xs i 0) are
+          ∙ ⊎-elim
+          (λ l. getD-build 13 new i 0 (ltb-true i 13 l))
+          (λ h.
+          let l = ltb-false i 13 h in
+          List·getD-eq-default (build 13 new) 0 {n = i} (omega (arith, l, length-build 13 new))
+          ∙ sym (cond-false (newList s table i) 0
+          (not-both (sound (s .faulty) i) (le-ltb i (s .n) (omega (arith, l, high))))))
+          (either (ltb i 13))
+
+      joins-as : (i k : ℕ) → joinsIn joining i k ≡ joinsNow s table i k
+      unfolding joinsIn joinsNow
+      joins-as i k = ap (λ (new : ℕ). joined (getD (s .lists) i 0) new k) (new-at i)
+
+      -- a list that has changed is that of a sound box
+      changed : (i : ℕ) → i < s .n → (getD (s .lists) i 0 ≡ getD lists i 0 → ⊥) → SoundBox (s .n) (s .faulty) i
+      unfolding badPlace entry
+      changed i l h = box-is (s .n) (s .faulty) i (go (ltb i (s .n) && sound (s .faulty) i) refl)
+        where
+          go : (b : Bool) → (ltb i (s .n) && sound (s .faulty) i) ≡ b → (ltb i (s .n) && sound (s .faulty) i) ≡ true
+          go true e = e
+          go false e =
+              let row = getD (s .rows) i 0 in
+              let list = getD (s .lists) i 0 in
+              let good =
+                  bad-none (s .n) (s .faulty) i row list e
+                  ∙ any-none 13 (badPlace s) (a .legal .pass14-places) i (omega (arith, l, high)) in
+              let zero = eqb-true list 0 (not-false (eqb list 0) (or-false-right (not (eqb row 0)) _ good)) in
+              absurd (h (zero ∙ sym (new-at i ∙ cond-false (newList s table i) 0 e)))
+
+      pub keeping : Keeping joining (r .confidences) (r .supports)
+      keeping =
+          record {
+            high = high;
+            all-confidences = cast-cells .all-confidences;
+            all-supports = supports-long;
+            within = λ i k l. joins-as i k ∙ joins-above s table i k l;
+            beyond = λ i k l. joins-as i k ∙ joins-none s table i k (λ b. absurd (omega (arith, l, b .below)));
+            by-confidence =
+                λ i k li lk h.
+                let b = changed i li h in
+                joins-as i k ∙ joins-by s table i k b lk
+                ∙ ap (λ (sure : ℕ). not (member (getD (s .lists) i 0) k) && ltb sure 2)
+                (sym (confidence-cell s i low high b table (r .rows) (r .confidences) (r .supports) grades k lk));
+          }
+
+      -- one part of the reasons
+      part-is : (part : Reason → ℕ) (first : List ℕ) (found : ℕ → ℕ → ℕ) → length first ≡ 169 →
+          ((i k : ℕ) → Joins s table i k → found i k ≡ part (reasonNow s table i k)) →
+          ((i k : ℕ) → getD first (13 * i + k) 0 ≡ part (reasonAt s i k)) →
+          keptTo 169 joining found first ≡ build 169 (λ p. part (newReason s table (p / 13) (p % 13)))
+      unfolding keptTo newReason
+      part-is part first found whole now before =
+          front-all _ first 169 whole refl ∙ build-ext 169 _ _ (λ p l. go p (p / 13) (p % 13) (place-again p))
+        where
+          by : (b : Bool) (i k : ℕ) → joinsNow s table i k ≡ b →
+              cond b (found i k) (getD first (13 * i + k) 0) ≡ part (cond b (reasonNow s table i k) (reasonAt s i k))
+          by true i k e = now i k (joins-is s table i k e)
+          by false i k e = before i k
+
+          go : (p i k : ℕ) → 13 * i + k ≡ p →
+              cond (joinsIn joining i k) (found i k) (getD first p 0) ≡
+              part (cond (joinsNow s table i k) (reasonNow s table i k) (reasonAt s i k))
+          go p i k e =
+              ap₂ (λ (b : Bool) (q : ℕ). cond b (found i k) (getD first q 0)) (joins-as i k) (sym e)
+              ∙ by (joinsNow s table i k) i k refl
+
+      pub reasons-are : length (s .reasons .iterations) ≡ 169 → length (s .reasons .confidences) ≡ 169 →
+          length (s .reasons .supports) ≡ 169 →
+          keptReasons joining (r .confidences) (r .supports) (s .reasons) ≡ reasonsOf (newReason s table)
+      unfolding keptReasons reasonsOf reasonNow reasonAt reasonIn reasonFrom
+      reasons-are li lc ls =
+          λ d.
+          record {
+            iterations =
+                part-is (λ r. r .iteration) (s .reasons .iterations) (λ i k. s .done + 1) li (λ i k j. refl)
+                (λ i k. refl) d;
+            confidences =
+                part-is (λ r. r .confidence) (s .reasons .confidences) (cellOf (s .n) (r .confidences)) lc
+                (λ i k j.
+                confidence-cell s i low high (j .of-box) table (r .rows) (r .confidences) (r .supports) grades k
+                (j .is-one))
+                (λ i k. refl) d;
+            supports =
+                part-is (λ r. r .support) (s .reasons .supports) (cellOf (s .n) (r .supports)) ls
+                (λ i k j.
+                support-cell s i low high (j .of-box) table (r .rows) (r .confidences) (r .supports) grades k
+                (j .is-one))
+                (λ i k. refl) d;
+          }
 
     -- the parts together are the next state
-    pub next-is : (rows lists : List ℕ) → rows ≡ build 13 (entry (s .n) (s .faulty) (newRow s table)) →
-        lists ≡ build 13 (entry (s .n) (s .faulty) (listFrom s (r .confidences))) →
+    pub next-is : (rows lists : List ℕ) (reasons : Reasons) →
+        rows ≡ build 13 (entry (s .n) (s .faulty) (newRow s table)) →
+        lists ≡ build 13 (entry (s .n) (s .faulty) (newList s table)) → reasons ≡ reasonsOf (newReason s table) →
         _≡_ {A = Run}
         (record {
           n = s .n;
@@ -112,10 +263,11 @@ module _ (s : Run) (table : List ℕ) (a : Iterable s table) where
           sent = s .sent + r .sent;
           rows = rows;
           lists = lists;
+          reasons = reasons;
         })
         (nextRun s table)
     unfolding nextRun
-    next-is rows lists er el =
+    next-is rows lists reasons er el ew =
         λ i.
         record {
           n = s .n;
@@ -124,5 +276,6 @@ module _ (s : Run) (table : List ℕ) (a : Iterable s table) where
           done = s .done + 1;
           sent = s .sent + sent-is i;
           rows = er i;
-          lists = (el ∙ lists-are) i;
+          lists = el i;
+          reasons = ew i;
         }
