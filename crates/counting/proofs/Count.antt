@@ -24,8 +24,8 @@ use native.Mathlib.Decide.{ℕ-discrete}
 use native.Mathlib.Numerals.{add-one}
 use native.Mathlib.Omega.{arith}
 use lib.Arith.{digits-div, digits-mod}
-use lib.Dec.{eqb}
-use borrow.Author.Tests.{eq-eqb, ne-eqb}
+use lib.Dec.{eqb, ltb}
+use borrow.Author.Tests.{eq-eqb, ne-eqb, ltb-true, ltb-false}
 use Rattle.counting.specs.Count.{sum, count, any, find}
 use Rattle.counting.proofs.Bools.{
   never,
@@ -39,6 +39,7 @@ use Rattle.counting.proofs.Bools.{
   or-false-left,
   or-false-right,
   or-none,
+  same,
 }
 
 -- what holds of every k below suc n holds below n, and at n
@@ -333,6 +334,28 @@ unfolding count
 count-add a zero p = rw add-zero (sym (add-zero (count a p)))
 count-add a (suc b) p =
     rw add-suc (ap (λ (m : ℕ). m + cond (p (a + b)) 1 0) (count-add a b p) ∙ add-assoc (count a p) _ _)
+
+-- places that do not pass add nothing
+module _ {n : ℕ} (m : ℕ) (p : ℕ → Bool) (l : n ≤ m) (none : (k : ℕ) → n ≤ k → k < m → p k ≡ false) where
+  pub count-wide : count n p ≡ count m p
+  count-wide =
+      let rest = count-none (m - n) (λ k. p (n + k)) (λ k h. none (n + k) (omega arith) (omega (arith, l, h))) in
+      let all : n + (m - n) ≡ m = omega (arith, l) in
+      omega (arith, count-add n (m - n) p, rest, ap (λ (q : ℕ). count q p) all)
+
+  pub any-wide : any n p ≡ any m p
+  any-wide = same (any n p) (any m p) more fewer
+    where
+      more : any n p ≡ true → any m p ≡ true
+      more h = let w = any-some n p h in some-any m p (w .at) (omega (arith, l, w .below)) (w .passes)
+
+      fewer : any m p ≡ true → any n p ≡ true
+      fewer h =
+          let w = any-some m p h in
+          ⊎-elim
+          (λ t. some-any n p (w .at) (ltb-true (w .at) n t) (w .passes))
+          (λ f. never (w .passes) (none (w .at) (ltb-false (w .at) n f) (w .below)))
+          (either (ltb (w .at) n))
 
 -- a test that passes in more places than come behind the first a passes in one of those
 pub count-first : (a n : ℕ) (p : ℕ → Bool) → a ≤ n → n - a < count n p → Some a p

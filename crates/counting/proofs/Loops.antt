@@ -4,12 +4,20 @@
 use mathlib.Core.Path.{_≡_, refl, sym, ap, _∙_}
 use mathlib.Core.Bool.{Bool, true, false, cond}
 use mathlib.Core.List.{List}
-use Prim.Native.Nat.{ℕ, _+_, _≤_, _<_}
+use Prim.Native.Nat.{ℕ, _+_, _-_, _≤_, _<_}
 use native.Mathlib.Omega.{arith}
-use lib.ListN.{length, take, set}
+use lib.ListN.{length, getD, take, set}
 use Rattle.counting.specs.Count.{count, any, build, front}
 use Rattle.counting.proofs.Count.{any-turn, some-any, count-turn, count-turn-le}
-use Rattle.counting.proofs.Build.{front-none, front-turn, front-length, front-take, front-whole, front-all}
+use Rattle.counting.proofs.Build.{
+  front-none,
+  front-turn,
+  front-more,
+  front-length,
+  front-take,
+  front-whole,
+  front-all,
+}
 
 -- a loop has come to its end
 at-end : {k m : ℕ} → k ≤ m → m ≤ k → k ≡ m
@@ -43,6 +51,15 @@ pub fill-ends : {m k : ℕ} (f : ℕ → ℕ) (xs : List ℕ) {out : List ℕ} �
     out ≡ build m f
 fill-ends {m = m} f xs whole filled l =
     front-all f xs m whole (front-whole f xs (at-end (filled .0) l) (filled .1))
+
+-- where the loop ends before the list, the places behind hold f already
+pub fill-rest : {n k : ℕ} (m : ℕ) (f : ℕ → ℕ) (xs : List ℕ) {out : List ℕ} → n ≤ m → length xs ≡ m →
+    ((q : ℕ) → n ≤ q → q < m → getD xs q 0 ≡ f q) → Filled n f xs k out → n ≤ k → out ≡ build m f
+fill-rest {n} m f xs most whole rest filled l =
+    front-all f xs m whole
+    (front-whole f xs (at-end (filled .0) l) (filled .1)
+    ∙ front-more n (m - n) f xs (omega (arith, most, whole)) (λ k h. rest (n + k) (omega arith) (omega (arith, h, most)))
+    ∙ ap (λ (q : ℕ). front q f xs) (omega (arith, most)))
 
 -- a loop that searches: none of the first k passes the test
 abbrev pub NoneYet : ℕ → (ℕ → Bool) → ℕ → Type 0

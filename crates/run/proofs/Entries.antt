@@ -1,11 +1,11 @@
 -- The entry of a place: what the test "one of the n boxes, and sound" says of it. Assumes nothing.
 use mathlib.Core.Path.{_≡_, sym}
 use mathlib.Core.Bool.{true, false, not, _&&_, _||_}
-use Prim.Native.Nat.{ℕ, _<_}
+use Prim.Native.Nat.{ℕ, _≤_, _<_}
 use lib.Dec.{eqb, ltb}
-use borrow.Author.Tests.{ltb-true}
+use borrow.Author.Tests.{ltb-true, le-ltb}
 use Rattle.counting.specs.Sets.{member}
-use Rattle.counting.proofs.Bools.{and-left, and-right, not-true, cond-true, cond-false}
+use Rattle.counting.proofs.Bools.{and-left, and-right, not-both, not-true, cond-true, cond-false}
 use Rattle.sizes.specs.Sizes.{sound, stray}
 use Rattle.run.specs.Iteration.{entry}
 use Rattle.run.specs.State.{badEntry}
@@ -25,6 +25,9 @@ module _ (n faulty k : ℕ) where
   pub entry-none : (f : ℕ → ℕ) → ltb k n && sound faulty k ≡ false → 0 ≡ entry n faulty f k
   unfolding entry
   entry-none f h = sym (cond-false (f k) 0 h)
+
+  pub entry-above : (f : ℕ → ℕ) → n ≤ k → 0 ≡ entry n faulty f k
+  entry-above f h = entry-none f (not-both (sound faulty k) (le-ltb k n h))
 
   pub bad-box : (row list : ℕ) → ltb k n && sound faulty k ≡ true → stray n list ≡ badEntry n faulty k row list
   unfolding badEntry

@@ -5,6 +5,7 @@ pub mod Closed
 pub mod Course
 pub mod Entries
 pub mod Fits
+pub mod Keep
 pub mod Kept
 pub mod Listings
 pub mod Parts

@@ -9,7 +9,7 @@ use native.Mathlib.Omega.{arith}
 use lib.Arith.{digits-div, digits-mod}
 use lib.Dec.{eqb, ltb}
 use lib.ListN.{getD}
-use borrow.Author.Tests.{eqb-true, eqb-false, eq-eqb, ne-eqb, ltb-false, le-ltb}
+use borrow.Author.Tests.{eqb-true, eqb-false, eq-eqb, ne-eqb, ltb-false, lt-ltb, le-ltb}
 use Rattle.counting.specs.Count.{build}
 use Rattle.counting.proofs.Bools.{or-none, or-false-left, or-false-right, not-of-true, not-false}
 use Rattle.counting.proofs.Build.{getD-build}
@@ -92,6 +92,27 @@ module _ (t done : ℕ) (r : Reason) where
             eqb-true (confidenceAt t (r .support)) (r .confidence)
             (not-false (eqb (confidenceAt t (r .support)) (r .confidence)) (or-false-right sure (unfit t r) h));
       }
+
+  -- which test it is that holds
+  pub bad-unsaid : r .iteration ≡ 0 → badReason t done true r ≡ true
+  unfolding badReason unsaid unlisted
+  bad-unsaid e = rw (eq-eqb (r .iteration) 0 e) refl
+
+  module _ (some : r .iteration ≡ 0 → ⊥) where
+    pub bad-early : done < r .iteration → badReason t done true r ≡ true
+    unfolding badReason unsaid unlisted notYetDone
+    bad-early h = rw (ne-eqb (r .iteration) 0 some, lt-ltb done (r .iteration) h) refl
+
+    module _ (is-done : r .iteration ≤ done) where
+      pub bad-sure : 1 < r .confidence → badReason t done true r ≡ true
+      unfolding badReason unsaid unlisted notYetDone tooSure
+      bad-sure h = rw (ne-eqb (r .iteration) 0 some, le-ltb done (r .iteration) is-done, lt-ltb 1 (r .confidence) h) refl
+
+      pub bad-by-fit : r .confidence ≤ 1 →
+          not (eqb (confidenceAt t (r .support)) (r .confidence)) ≡ badReason t done true r
+      unfolding badReason unsaid unlisted notYetDone tooSure unfit
+      bad-by-fit h =
+          rw (ne-eqb (r .iteration) 0 some, le-ltb done (r .iteration) is-done, le-ltb 1 (r .confidence) h) refl
 
   -- nothing is kept
   pub nothing-kept : kept r ≡ false → r ≡ noReason

@@ -332,14 +332,11 @@ fn look_at<'a>(
         (λ k. reasonFrom (now (iterations .entry)) (now (sure .entry)) (now (backed .entry)) (13 * i + k))) ⌝ }
     ensures { λ r. ⌜ (r .bad ≡ false → r .listed ≡ count 13 (member list)) ⌝ }
 {
+    let mut listed: u16 = 0;
     if list == 0 {
-        return Looked {
-            bad: false,
-            listed: 0,
-        };
+        return Looked { bad: false, listed };
     }
     let end = limits.n as usize;
-    let mut listed: u16 = 0;
     let mut k: usize = 0;
     while k < end {
         let p = 13 * i + k;
@@ -350,10 +347,7 @@ fn look_at<'a>(
         };
         let is = sizes::is_member(list, k);
         if is_bad_reason(limits.t, limits.done, is, reason) {
-            return Looked {
-                bad: true,
-                listed: 0,
-            };
+            return Looked { bad: true, listed };
         }
         listed += bit_if(is, 1);
         k += 1;
@@ -637,7 +631,8 @@ fn kept_now(joins: bool, found: u8, kept: u8) -> u8
     if joins { found } else { kept }
 }
 
-// Step 5: the reasons that box i keeps. Those behind place n stay: no box is there to join.
+// Step 5: the reasons that box i keeps. Where its list has not changed nobody joins. Those behind place n stay: no box is
+// there to join.
 fn keep_box<'a, 'b>(
     j: Joining,
     i: usize,
@@ -653,8 +648,11 @@ fn keep_box<'a, 'b>(
     ensures { λ r. ⌜ BoxKept j i (cellOf (j .n) (now (confidences .entry))) (now (sure .entry)) (now (sure .exit)) ⌝ }
     ensures { λ r. ⌜ BoxKept j i (cellOf (j .n) (now (supports .entry))) (now (backed .entry)) (now (backed .exit)) ⌝ }
 {
-    let boxes = j.n as usize;
     let old = j.old[i];
+    if old == j.new[i] {
+        return;
+    }
+    let boxes = j.n as usize;
     let first = i * boxes;
     let place = 13 * i;
     let mut k: usize = 0;
@@ -669,7 +667,7 @@ fn keep_box<'a, 'b>(
     }
 }
 
-// Step 5: the reasons that all boxes keep. A box whose list has not changed keeps those that it has.
+// Step 5: the reasons that all boxes keep.
 fn keep_reasons<'a, 'b>(
     j: Joining,
     confidences: &'b [u8],
@@ -688,9 +686,7 @@ fn keep_reasons<'a, 'b>(
     let boxes = j.n as usize;
     let mut i: usize = 0;
     while i < boxes {
-        if j.old[i] != j.new[i] {
-            keep_box(j, i, confidences, supports, iterations, sure, backed);
-        }
+        keep_box(j, i, confidences, supports, iterations, sure, backed);
         i += 1;
     }
 }
