@@ -9,5 +9,6 @@ pub mod Keep
 pub mod Kept
 pub mod Listings
 pub mod Parts
+pub mod Reckoned
 pub mod Refusals
 pub mod Whole
