@@ -58,12 +58,12 @@ module _ (j : Joining) (found : ℕ → ℕ → ℕ) where
     so-far-turn {k} {v} {after} lk h e = (
       length-set after (13 * i + k) v ∙ h .0,
       λ first whole b.
-      let so = h .1 first whole b in
-      let inside : 13 * i + k < length first = omega (arith, li, lk, whole) in
-      let stood = ap (λ (xs : List ℕ). getD xs (13 * i + k) 0) so ∙ front-next (13 * i + k) (at first) first inside in
-      front-turn (13 * i + k) (at first) first after inside so
-      (e ∙ ap (λ (old : ℕ). cond (joinsIn j i k) (found i k) old) stood ∙ sym (at-place first i k lk))
-      ∙ ap (λ (q : ℕ). front q (at first) first) (omega arith),
+          let so = h .1 first whole b in
+          let inside : 13 * i + k < length first = omega (arith, li, lk, whole) in
+          let stood = ap (λ (xs : List ℕ). getD xs (13 * i + k) 0) so ∙ front-next (13 * i + k) (at first) first inside in
+          front-turn (13 * i + k) (at first) first after inside so
+          (e ∙ ap (λ (old : ℕ). cond (joinsIn j i k) (found i k) old) stood ∙ sym (at-place first i k lk))
+          ∙ ap (λ (q : ℕ). front q (at first) first) (omega arith),
     )
 
     -- behind the n boxes nobody joins

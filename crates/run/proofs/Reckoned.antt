@@ -89,9 +89,9 @@ module _ (s : Run) (high : s .n ≤ 13) (good : any 13 (badPlace s) ≡ false) w
   unfolding listedBy
   listed-more i {listed} {more} e f =
       let here =
-          count-ext 13 (λ k. listedPlace (13 * i + k)) (member (getD (s .lists) i 0))
-          (λ k l. ap (λ (a : ℕ). member (getD (s .lists) a 0) ((13 * i + k) % 13)) (place-box i l)
-          ∙ ap (member (getD (s .lists) i 0)) (place-leader i l)) in
+      count-ext 13 (λ k. listedPlace (13 * i + k)) (member (getD (s .lists) i 0))
+      (λ k l. ap (λ (a : ℕ). member (getD (s .lists) a 0) ((13 * i + k) % 13)) (place-box i l)
+      ∙ ap (member (getD (s .lists) i 0)) (place-leader i l)) in
       let whole : 13 * i + 13 ≡ 13 * (i + 1) = omega arith in
       omega (arith, e, f, here, count-add (13 * i) 13 listedPlace, ap (λ (q : ℕ). count q listedPlace) whole)
 
@@ -182,7 +182,7 @@ module _ (s : Run) (high : s .n ≤ 13) (good : any 13 (badPlace s) ≡ false) w
             ⊎-elim (λ y. y)
             (λ n.
             let none = unlisted-none (s .t) (s .done) (reasonAt s i k)
-                (subst (λ (b : Bool). badReason (s .t) (s .done) b (reasonAt s i k) ≡ false) n fine) in
+            (subst (λ (b : Bool). badReason (s .t) (s .done) b (reasonAt s i k) ≡ false) n fine) in
             never t (ap kept (sym (at-place p) ∙ none) ∙ none-kept))
             (either (listedPlace p))
 

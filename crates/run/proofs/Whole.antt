@@ -32,6 +32,7 @@ use Rattle.run.specs.declared.Run.{Run}
 use Rattle.run.specs.Inside.{
   GradesOf,
   AllCells,
+  AllPlaces,
   Keeping,
   cellOf,
   rowFrom,
@@ -184,8 +185,8 @@ module _ (s : Run) (table : List ℕ) (a : Iterable s table) where
               let row = getD (s .rows) i 0 in
               let list = getD (s .lists) i 0 in
               let good =
-                  bad-none (s .n) (s .faulty) i row list e
-                  ∙ any-none 13 (badPlace s) (a .legal .pass14-places) i (omega (arith, l, high)) in
+              bad-none (s .n) (s .faulty) i row list e
+              ∙ any-none 13 (badPlace s) (a .legal .pass14-places) i (omega (arith, l, high)) in
               let zero = eqb-true list 0 (not-false (eqb list 0) (or-false-right (not (eqb row 0)) _ good)) in
               absurd (h (zero ∙ sym (new-at i ∙ cond-false (newList s table i) 0 e)))
 
@@ -226,24 +227,26 @@ module _ (s : Run) (table : List ℕ) (a : Iterable s table) where
               ap₂ (λ (b : Bool) (q : ℕ). cond b (found i k) (getD first q 0)) (joins-as i k) (sym e)
               ∙ by (joinsNow s table i k) i k refl
 
-      pub reasons-are : length (s .reasons .iterations) ≡ 169 → length (s .reasons .confidences) ≡ 169 →
-          length (s .reasons .supports) ≡ 169 →
+      pub reasons-are : AllPlaces (s .reasons) →
           keptReasons joining (r .confidences) (r .supports) (s .reasons) ≡ reasonsOf (newReason s table)
       unfolding keptReasons reasonsOf reasonNow reasonAt reasonIn reasonFrom
-      reasons-are li lc ls =
+      reasons-are long =
           λ d.
           record {
             iterations =
-                part-is (λ r. r .iteration) (s .reasons .iterations) (λ i k. s .done + 1) li (λ i k j. refl)
+                part-is (λ r. r .iteration) (s .reasons .iterations) (λ i k. s .done + 1)
+                (long .all-iterations) (λ i k j. refl)
                 (λ i k. refl) d;
             confidences =
-                part-is (λ r. r .confidence) (s .reasons .confidences) (cellOf (s .n) (r .confidences)) lc
+                part-is (λ r. r .confidence) (s .reasons .confidences) (cellOf (s .n) (r .confidences))
+                (long .all-confidences)
                 (λ i k j.
                 confidence-cell s i low high (j .of-box) table (r .rows) (r .confidences) (r .supports) grades k
                 (j .is-one))
                 (λ i k. refl) d;
             supports =
-                part-is (λ r. r .support) (s .reasons .supports) (cellOf (s .n) (r .supports)) ls
+                part-is (λ r. r .support) (s .reasons .supports) (cellOf (s .n) (r .supports))
+                (long .all-supports)
                 (λ i k j.
                 support-cell s i low high (j .of-box) table (r .rows) (r .confidences) (r .supports) grades k
                 (j .is-one))

@@ -69,6 +69,12 @@ unfoldable pub keptTo : ℕ → Joining → (ℕ → ℕ → ℕ) → List ℕ �
 keptTo q j found first =
     front q (λ p. cond (joinsIn j (p / 13) (p % 13)) (found (p / 13) (p % 13)) (getD first p 0)) first
 
+-- each part of the reasons has 169 places
+pub record AllPlaces (reasons : Reasons) : Type 0 where
+  pub all-iterations : length (reasons .iterations) ≡ 169
+  pub all-confidences : length (reasons .confidences) ≡ 169
+  pub all-supports : length (reasons .supports) ≡ 169
+
 -- all reasons after an iteration
 unfoldable pub keptReasons : Joining → List ℕ → List ℕ → Reasons → Reasons
 keptReasons j confidences supports reasons =

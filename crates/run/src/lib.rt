@@ -10,6 +10,7 @@ ghost use Rattle.sizes.specs.Sizes.{sound, soundZero, stray};
 ghost use Rattle.run.specs.Iteration.{entry, reasonFrom, reasonIn};
 ghost use Rattle.run.specs.Inside.{
   AllCells,
+  AllPlaces,
   rowFrom,
   listFrom,
   badListing,
@@ -700,6 +701,7 @@ fn step5_reasons<'b>(
 ) -> Reasons
     requires { ⌜ Keeping j (now confidences) (now supports) ⌝ }
     ensures { λ r. ⌜ r ≡ keptReasons j (now (confidences .entry)) (now (supports .entry)) reasons ⌝ }
+    ensures { λ r. ⌜ AllPlaces reasons ⌝ }
 {
     let mut iterations = reasons.iterations;
     let mut sure = reasons.confidences;

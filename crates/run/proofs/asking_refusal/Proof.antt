@@ -1,47 +1,80 @@
+-- `run::asking_refusal` meets its contract: it makes the tests of refusals 14 and 15 in their order. Assumes nothing.
+use mathlib.Core.Path.{_≡_, refl, sym, _∙_}
+use mathlib.Core.Bool.{false, _||_}
+use mathlib.Core.List.{[]}
+use native.Mathlib.Omega.{arith}
+use borrow.Author.Tests.{lt-ltb, le-ltb}
+use Rattle.counting.proofs.Bools.{or-none, or-true-left, or-true-right}
+use Rattle.counting.proofs.Refuse.{refused, passed, none-left}
+use Rattle.run.specs.declared.Run.{Run}
+use Rattle.run.specs.Inside.{askingRefusal}
+use Rattle.run.specs.State.{badState}
+use Rattle.run.specs.Why.{overdone, notAsked, noBox}
 use borrow.Author.Needs.{needs}
 use Rattle.run.proofs.asking_refusal.Statement.{statement}
 use Rattle.run.proofs.asking_refusal.Tie as tie
-use Rattle.run.proofs.asking_refusal.Reads as reads
-use Rattle.run.proofs.asking_refusal.Lts as lts
-use Rattle.run.proofs.is_bad_state.Reads as is-bad-state-reads
-use Rattle.run.proofs.is_no_box.Reads as is-no-box-reads
-use Rattle.run.proofs.is_not_asked.Reads as is-not-asked-reads
 
--- src/lib.rt:474:8
 add-if1 : tie.Need-add-if1
-add-if1 c = search needs
+add-if1 c = let p = c .before .pre in omega (arith, p .1, p .2)
 
--- src/lib.rt:475:9
 returns : tie.Need-returns
-returns c = search needs
+unfolding askingRefusal overdone
+returns c = sym (refused 14 _ (or-true-left _ (lt-ltb _ _ (c .if1 .taken))))
 
--- src/lib.rt:477:8
 is-bad-state-requires : tie.Need-is-bad-state-requires
-is-bad-state-requires c κs = search needs
+is-bad-state-requires c κs = let p = c .before .before .before .pre in (p .0, p .1)
 
--- src/lib.rt:478:9
+-- where no more iterations are done than may be, and where the state is good
+abbrev state-of : tie.Else1 → Run
+state-of c = c .before .before .before .args .s
+
+not-over : (c : tie.Else1) → overdone (state-of c) ≡ false
+unfolding overdone
+not-over c = le-ltb _ _ (c .if1 .left)
+
+good : (c : tie.Else2) → (overdone (state-of (c .before .before)) || badState (state-of (c .before .before))) ≡ false
+good c = or-none (not-over (c .before .before)) (sym (c .before .is-bad-state .ensures) ∙ c .if2 .left)
+
 returns-2 : tie.Need-returns-2
-returns-2 c = search needs
+unfolding askingRefusal
+returns-2 c =
+    let bad = sym (c .before .is-bad-state .ensures) ∙ c .if2 .taken in
+    sym (refused 14 _ (or-true-right (overdone (state-of (c .before .before))) bad))
 
--- src/lib.rt:480:8
 is-not-asked-requires : tie.Need-is-not-asked-requires
 is-not-asked-requires c κs = search needs
 
--- src/lib.rt:481:9
 returns-3 : tie.Need-returns-3
-returns-3 c = search needs
+unfolding askingRefusal notAsked
+returns-3 c =
+    let not = sym (c .before .is-not-asked .ensures) ∙ c .if3 .taken in
+    sym (passed 14 _ (good (c .before .before)) ∙ refused 15 _ (or-true-left _ not))
 
--- src/lib.rt:483:8
 is-no-box-requires : tie.Need-is-no-box-requires
 is-no-box-requires c κs = search needs
 
--- src/lib.rt:484:9
-returns-4 : tie.Need-returns-4
-returns-4 c = search needs
+-- where the box can be asked
+can-be : (c : tie.Else3) →
+    let first = c .before .before .before .before in
+    notAsked (state-of first) (first .before .before .before .args .asked) ≡ false
+unfolding notAsked
+can-be c = sym (c .before .is-not-asked .ensures) ∙ c .if3 .left
 
--- src/lib.rt:470:1
+returns-4 : tie.Need-returns-4
+unfolding askingRefusal
+returns-4 c =
+    let three = c .before .before in
+    let none = sym (c .before .is-no-box .ensures) ∙ c .if4 .taken in
+    let first = three .before .before .before .before in
+    let not = notAsked (state-of first) (first .before .before .before .args .asked) in
+    sym (passed 14 _ (good (three .before .before)) ∙ refused 15 [] (or-true-right not none))
+
 returns-5 : tie.Need-returns-5
-returns-5 c = search needs
+unfolding askingRefusal
+returns-5 c =
+    let three = c .before .before in
+    let is = sym (c .before .is-no-box .ensures) ∙ c .if4 .left in
+    sym (passed 14 _ (good (three .before .before)) ∙ passed 15 [] (or-none (can-be three) is) ∙ none-left)
 
 pub asking-refusal-spec : {M : Type 1} → statement M
 asking-refusal-spec =

@@ -108,8 +108,7 @@ loop-again c =
     let looked = c .before .before in
     let turn = turn-of looked in
     let inv = turn .before .loop .inv in
-    let p = start-of turn .pre in
-    (
+    let p = start-of turn .pre in (
       search-turn _ (inv .0) (turn .loop-test .taken) (looked .look-at .ensures .0) (c .before .if1 .left),
       listed-more _ (p .0) (p .1) (turn .before .loop .i) (inv .1) (listed-of (c .before)),
     )

@@ -1,35 +1,43 @@
+-- `run::is_bad_state` meets its contract: it makes the three tests of refusal 14 one after another. Assumes nothing.
+use mathlib.Core.Path.{_≡_, refl, sym, _∙_}
+use mathlib.Core.Bool.{false}
+use Rattle.counting.specs.Count.{any}
+use Rattle.run.specs.State.{badPlace, tooManySent, badState}
 use borrow.Author.Needs.{needs}
 use Rattle.run.proofs.is_bad_state.Statement.{statement}
 use Rattle.run.proofs.is_bad_state.Tie as tie
-use Rattle.run.proofs.is_bad_state.Reads as reads
-use Rattle.run.proofs.is_bad_state.Lts as lts
-use Rattle.run.proofs.has_bad_place.Reads as has-bad-place-reads
-use Rattle.run.proofs.has_bad_reason.Reads as has-bad-reason-reads
-use Rattle.run.proofs.has_too_many_sent.Reads as has-too-many-sent-reads
 
--- src/lib.rt:397:8
 has-bad-place-requires : tie.Need-has-bad-place-requires
 has-bad-place-requires c κs = search needs
 
--- src/lib.rt:398:9
 returns : tie.Need-returns
-returns c = search needs
+unfolding badState
+returns c = rw (sym (c .before .has-bad-place .ensures) ∙ c .if1 .taken) refl
 
--- src/lib.rt:400:8
 has-too-many-sent-requires : tie.Need-has-too-many-sent-requires
 has-too-many-sent-requires c κs = search needs
 
--- src/lib.rt:401:9
+-- where every place is good, and where few enough messages are sent
+good : (c : tie.Else1) → any 13 (badPlace (c .before .before .args .s)) ≡ false
+good c = sym (c .before .has-bad-place .ensures) ∙ c .if1 .left
+
+few : (c : tie.Else2) → tooManySent (c .before .before .before .before .args .s) ≡ false
+few c = sym (c .before .has-too-many-sent .ensures) ∙ c .if2 .left
+
 returns-2 : tie.Need-returns-2
-returns-2 c = search needs
+unfolding badState
+returns-2 c =
+    let many = sym (c .before .has-too-many-sent .ensures) ∙ c .if2 .taken in
+    rw (good (c .before .before), many) refl
 
--- src/lib.rt:403:5
 has-bad-reason-requires : tie.Need-has-bad-reason-requires
-has-bad-reason-requires c κs = search needs
+has-bad-reason-requires c κs =
+    let first = c .before .before in
+    (first .before .before .pre .1, good first)
 
--- src/lib.rt:393:1
 returns-3 : tie.Need-returns-3
-returns-3 c = search needs
+unfolding badState
+returns-3 c = c .has-bad-reason .ensures ∙ rw (good (c .before .before .before), few (c .before)) refl
 
 pub is-bad-state-spec : {M : Type 1} → statement M
 is-bad-state-spec =

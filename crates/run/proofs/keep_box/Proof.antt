@@ -198,8 +198,7 @@ loop-again c =
     let turn = turn-of asked in
     let inv = turn .before .loop .inv in
     let l = few (box-of turn) in
-    let k : turn .before .loop .k < 13 = omega (arith, turn .loop-test .taken, box-of turn .pre .0 .0 .high) in
-    (
+    let k : turn .before .loop .k < 13 = omega (arith, turn .loop-test .taken, box-of turn .pre .0 .0 .high) in (
       search needs,
       so-far-turn _ _ _ l k (inv .1) (gets asked _ _ (one .kept-now .ensures)),
       so-far-turn _ _ _ l k (inv .2) (gets asked _ _ (two .kept-now2 .ensures)),
@@ -221,8 +220,7 @@ returns-2 c =
     let inv = c .before .loop .inv in
     let high = s .pre .0 .0 .high in
     let none = s .pre .0 .0 .within (s .args .i) in
-    let at-end : c .before .loop .k ≡ s .args .t1 .n = omega arith in
-    (
+    let at-end : c .before .loop .k ≡ s .args .t1 .n = omega arith in (
       so-far-ends _ _ _ (few s) at-end high none (inv .1),
       (
         so-far-ends _ _ _ (few s) at-end high none (inv .2),

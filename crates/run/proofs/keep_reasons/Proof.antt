@@ -57,8 +57,7 @@ loop-again c =
     let turn = turn-of kept in
     let s = box-of turn in
     let i = turn .before .loop .i in
-    let inv = turn .before .loop .inv in
-    (
+    let inv = turn .before .loop .inv in (
       search needs,
       boxes-turn _ _ (s .args .iterations .now) i (s .pre .1 .0) (inv .1) (kept .keep-box .ensures .0),
       boxes-turn _ _ (s .args .sure .now) i (s .pre .1 .1) (inv .2) (kept .keep-box .ensures .1 .0),
@@ -84,8 +83,7 @@ returns c =
     let inv = c .before .loop .inv in
     let none = s .pre .0 .beyond in
     let high = s .pre .0 .high in
-    let at-end : c .before .loop .i ≡ s .args .j .n = omega arith in
-    (
+    let at-end : c .before .loop .i ≡ s .args .j .n = omega arith in (
       boxes-end _ _ (s .args .iterations .now) (s .pre .1 .0) at-end high none (inv .1),
       (
         boxes-end _ _ (s .args .sure .now) (s .pre .1 .1) at-end high none (inv .2),

@@ -155,10 +155,9 @@ returns-3 : tie.Need-returns-3 Inv-loop μ-loop
 unfolding badListing
 returns-3 c =
     let s = start-of (c .before .before .before) in
-    let inv = c .before .loop .inv in
-    (
+    let inv = c .before .loop .inv in (
       search-ends _ (inv .0) (omega arith)
-      ∙ any-wide 13 _ (s .pre .0 .0) (λ k h l. not-both _ (behind s k h)),
+          ∙ any-wide 13 _ (s .pre .0 .0) (λ k h l. not-both _ (behind s k h)),
       λ e. count-ends _ (inv .1) (omega arith) ∙ count-wide 13 _ (s .pre .0 .0) (λ k h l. behind s k h),
     )
 

@@ -20,8 +20,10 @@ keep-reasons-requires c κs = (search needs, (search needs, search needs, search
 returns : tie.Need-returns
 unfolding keptReasons
 returns c =
-    let kept = c .before .before .before .keep-reasons .ensures in
-    λ d. record { iterations = kept .0 d; confidences = kept .1 .0 d; supports = kept .1 .1 d }
+    let kept = c .before .before .before .keep-reasons .ensures in (
+      λ d. record { iterations = kept .0 d; confidences = kept .1 .0 d; supports = kept .1 .1 d },
+      record { all-iterations = search needs; all-confidences = search needs; all-supports = search needs },
+    )
 
 pub step5-reasons-spec : {M : Type 1} → statement M
 step5-reasons-spec =
