@@ -207,10 +207,10 @@ def kept_reasons():
     """Case S after its first iteration, with another reason of box 1 for box 4, or with one where none belongs. t = 1
     and one iteration is done. The second iteration, and why."""
     lead, after = (4, 1, 8, 1, 75, [10, 20, 10], [8, 8, 8]), (4, 1, 8, 2, 138, [10] * 3, [8] * 3)
-    for reason, passes in (((1, 0, 0), 1), ((1, 0, 1), 1), ((1, 1, 2), 1), ((0, 0, 0), 0), ((0, 0, 1), 0), ((0, 1, 2), 0),
-                           ((2, 0, 1), 0), ((255, 0, 1), 0), ((1, 2, 3), 0), ((1, 2, 2), 0), ((1, 255, 0), 0),
-                           ((1, 0, 2), 0), ((1, 0, 3), 0), ((1, 1, 0), 0), ((1, 1, 1), 0), ((1, 1, 3), 0), ((1, 1, 4), 0),
-                           ((1, 0, 255), 0)):
+    good = (1, 0, 0), (1, 0, 1), (1, 1, 2)
+    bad = ((0, 0, 0), (0, 0, 1), (0, 1, 2), (2, 0, 1), (255, 0, 1), (1, 2, 3), (1, 2, 2), (1, 255, 0), (1, 0, 2),
+           (1, 0, 3), (1, 1, 0), (1, 1, 1), (1, 1, 3), (1, 1, 4), (1, 0, 255))
+    for reason, passes in (*((one, True) for one in good), *((one, False) for one in bad)):
         reasons = S_KEPT | kept({(1, 4): reason})
         said = " ".join(map(str, (0, *reason) if passes else (14, 0, 0, 0)))
         yield why(1, 4, *lead, reasons), state_line("why", said, *lead, reasons)
@@ -396,7 +396,8 @@ def files():
     yield from listing(one, "run 1 0 0\nat 1 1 5 0\nsent 0\n", 0)
     yield from listing(b"", "refused 1\n", 1)
     yield from listing(heading_bytes(3, 1, 8, []), "refused 5\n", 5)
-    for asked, due in ((data, (0, 4, 1, 8, 2, 138, [10, 10, 10], [8, 8, 8], S_KEPT)), (one, (0, 1, 0, 0, 1, 0, [5], [])),
+    for asked, due in ((data, (0, 4, 1, 8, 2, 138, [10, 10, 10], [8, 8, 8], S_KEPT)),
+                       (one, (0, 1, 0, 0, 1, 0, [5], [])),
                        (data + b"\0", (8, 0, 0, 0, 0, 0, [], [])), (data[:-1], (8, 0, 0, 0, 0, 0, [], [])),
                        (data[:9 + 32], (8, 0, 0, 0, 0, 0, [], [])), (b"", (1, 0, 0, 0, 0, 0, [], []))):
         yield struct.pack(">BI", 19, len(asked)) + asked, state_line("outcome", *due)
@@ -405,8 +406,8 @@ def files():
 
 def box_numbers():
     """Where it is a number it is followed by its value, or by 256."""
-    for text, due in ((b"", "0 0"), (b"0", "1 0"), (b"4", "1 4"), (b"004", "1 4"), (b"255", "1 255"), (b"256", "1 256"),
-                      (b"257", "1 256"), (b"1000", "1 256"), (b"00000000000000000255", "1 255"),
+    for text, due in ((b"", "0 0"), (b"0", "1 0"), (b"4", "1 4"), (b"004", "1 4"), (b"255", "1 255"),
+                      (b"256", "1 256"), (b"257", "1 256"), (b"1000", "1 256"), (b"00000000000000000255", "1 255"),
                       (b"000000000000000000255", "0 0"), (b"00000000000000000256", "1 256"),
                       (b"18446744073709551615", "1 256"), (b"18446744073709551616", "1 256"),
                       (b"18446744073709551620", "1 256"), (b"99999999999999999999", "1 256"),
@@ -449,8 +450,7 @@ def answers():
     yield from answer(silent_file(4, 1, 0, [7, 7, 9, 9]), 1, 4, nobody)
     yield from answer(silent_file(1, 0, 0, [5]), 1, 1, nobody)
     yield from answer(silent_file(1, 0, 0, [5]), 1, 2, "refused 15", 15)
-    # Box 4 lies in the second iteration as it does in the first of case S, and is a sound box's like before: it sends
-    # 40 in every step, and what it heard. Then nobody lists it before the second.
+    # Box 4 is as good as sound in the first iteration. In the second it lies as in the first one of case S.
     yield from answer(late_file(), 1, 4, "listed in iteration 2 with confidence 0 and support 1")
     yield from answer(late_file(), 2, 4, "listed in iteration 2 with confidence 1 and support 2")
     yield from answer(late_file(), 2, 3, nobody)
@@ -465,7 +465,8 @@ def answers():
 
 def late_file():
     """Rows 10, 10, 10. In the first iteration box 4 says 10 of all leaders to all, so that all have confidence 2 in all
-    and hold 10. Then it speaks for itself alone, as in case S: the sound leaders have confidence 2 with 10."""
+    and hold 10. Then it speaks for itself alone, as in case S, where what is heard about it does not depend on the
+    other boxes' rows."""
     first = Table(4)
     for receiver in range(4):
         first.first(3, receiver, 10)
