@@ -1,11 +1,14 @@
 /* notebook list [FILE]      prints the listing of a run file.
    notebook make [FILE]      turns a text into a run file, as docs/TEXT.md has it.
    notebook show [FILE]      prints the text of a run file.
+   notebook why ASKED LISTED [FILE]
+                             says why box LISTED is on the list of box ASKED at the end of a run file.
    notebook replies < STREAM answers the requests of docs/REQUESTS.md.
 
-   Status 0: a listing that ends with `sent`, a run file, a text, or all replies. Status 1: a listing that ends with
-   `refused`, or else one line on standard error that says what is wrong with the text or the file, and nothing on
-   standard output. Status 2: it could not run, open, read or write; one line on standard error says which. */
+   Status 0: a listing that ends with `sent`, a run file, a text, an answer, or all replies. Status 1: a listing that
+   ends with `refused`, an answer that says `refused`, or else one line on standard error that says what is wrong with
+   the text or the file, and nothing on standard output. Status 2: it could not run, open, read or write; one line on
+   standard error says which. */
 #define _POSIX_C_SOURCE 200809L
 #include "notebook.h"
 
@@ -13,7 +16,9 @@
 #include <stdio.h>
 #include <string.h>
 
-#define USAGE "usage: notebook list|make|show [FILE] | notebook replies < STREAM | notebook --help\n"
+#define USAGE \
+    "usage: notebook list|make|show [FILE] | notebook why ASKED LISTED [FILE] | " \
+    "notebook replies < STREAM | notebook --help\n"
 
 /* A text has any length, so it is taken in pieces. */
 enum { PIECE_BYTES = 65536 };
@@ -30,6 +35,12 @@ static int print_usage(void)
     put_word(USAGE);
     put_all();
     return 0;
+}
+
+static int wrong_usage(void)
+{
+    fputs(USAGE, stderr);
+    return STATUS_FAILED;
 }
 
 /* One byte more than the largest file has shows that a file goes on, so an endless one is read no further. */
@@ -90,6 +101,25 @@ static int show_file(const char *name)
     return 0;
 }
 
+static int read_argument(const char *argument, unsigned *number)
+{
+    return read_box_number((const uint8_t *)argument, strlen(argument), number);
+}
+
+/* What is no question is told before anything is opened or read. */
+static int print_answer(char **words)
+{
+    struct answer answer;
+    unsigned asked, listed;
+    if (!read_argument(words[0], &asked) || !read_argument(words[1], &listed))
+        return wrong_usage();
+    read_from(words[2]);
+    answer_file(file, take(file, sizeof file), asked, listed, &answer);
+    put_bytes(answer.text, answer.size);
+    put_all();
+    return answer.ends == FINE ? 0 : 1;
+}
+
 static int print_replies(void)
 {
     read_from(NULL);
@@ -109,8 +139,9 @@ int main(int argc, char **argv)
         return make_file(argv[2]);
     if ((argc == 2 || argc == 3) && is(argv[1], "show"))
         return show_file(argv[2]);
+    if ((argc == 4 || argc == 5) && is(argv[1], "why"))
+        return print_answer(argv + 2);
     if (argc == 2 && is(argv[1], "replies"))
         return print_replies();
-    fputs(USAGE, stderr);
-    return STATUS_FAILED;
+    return wrong_usage();
 }

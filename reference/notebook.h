@@ -5,7 +5,7 @@
 #include <stddef.h>
 #include <stdint.h>
 
-enum { MOST_BOXES = 13, MOST_ROWS = 13 * 13 + 2 * 13 * 13 * 13 };
+enum { MOST_BOXES = 13, MOST_ROWS = 13 * 13 + 2 * 13 * 13 * 13, MOST_REASONS = 13 * 13 };
 
 /* The run file: its heading without the rows, one row, and the largest file: thirteen boxes and five tables. */
 enum { MARK_BYTES = 9, ROW_BYTES = 8, MOST_FILE = MARK_BYTES + ROW_BYTES * (MOST_BOXES + 5 * MOST_ROWS) };
@@ -22,6 +22,9 @@ enum { MOST_LINE = 1000, LENT_LINE = MOST_LINE + 1 };
 
 /* Room for everything that is told: 27 bytes before the longest sentence, which has 82, and a newline. */
 enum { MOST_TOLD = 128 };
+
+/* Room for every line that says why: three numbers of 8 bits between words of 51 bytes. */
+enum { MOST_ANSWER = 64 };
 
 /* What part 0 of a text that is shown may take, and what one row of a table may take. */
 enum { FRONT_ROOM = 300, SAY_ROOM = 40 };
@@ -42,11 +45,17 @@ enum refusal {
     WRONG_LENGTH = 11,
     ALL_DONE = 12,
     WRONG_CONFIDENCE = 13,
-    WRONG_STATE = 14
+    WRONG_STATE = 14,
+    WRONG_BOX = 15
 };
 
 /* The status of a program that could not run, open, read or write. */
 enum { STATUS_FAILED = 2 };
+
+/* Why a box was listed: the iteration, from 1, and what was found in it. Zeros where there is no listing. */
+struct reason {
+    uint8_t iteration, confidence, support;
+};
 
 struct state {
     uint8_t n, t;
@@ -55,6 +64,7 @@ struct state {
     uint64_t sent;
     uint64_t row[MOST_BOXES];
     uint16_t list[MOST_BOXES];
+    struct reason reason[MOST_REASONS]; /* by `reason_place` */
 };
 
 struct grade {
@@ -93,6 +103,13 @@ struct line {
 /* The listing of a run file, and how its last line reads: FINE for `sent`, else what stands behind `refused`. */
 struct listing {
     uint8_t text[MOST_TEXT];
+    size_t size;
+    enum refusal ends;
+};
+
+/* The line that says why, and what stands behind `refused` in it: FINE where it says something else. */
+struct answer {
+    char text[MOST_ANSWER];
     size_t size;
     enum refusal ends;
 };
@@ -151,6 +168,9 @@ enum refusal vote(const uint64_t *rows, size_t count, unsigned t, uint64_t *row)
 enum refusal grade(const uint64_t *rows, size_t count, unsigned t, struct grade *answer);
 enum refusal choice(const uint64_t *rows, size_t count, const uint8_t *confidences, size_t confidence_count,
                     struct choice *answer);
+size_t reason_place(unsigned box, unsigned leader);
+enum refusal check_boxes(const struct state *state);
+int state_is_wrong(const struct state *state);
 enum refusal start(uint8_t n, uint8_t t, uint16_t faulty, const uint64_t *rows, size_t count, struct state *state);
 enum refusal steps(uint64_t n, const struct state *from, const uint64_t *table, size_t count, struct cast *cast);
 enum refusal iterate(struct state *state, const uint64_t *table, size_t count);
@@ -198,6 +218,13 @@ enum refusal show_part(const uint8_t *bytes, size_t count, uint64_t part, uint8_
 void list_file(const uint8_t *bytes, size_t count, struct listing *listing);
 enum refusal list_into(const uint8_t *bytes, size_t count, uint8_t *slice, size_t length, struct listing *listing);
 enum refusal outcome(const uint8_t *bytes, size_t count, struct state *state);
+
+/* why.c */
+enum refusal why(const struct state *state, uint64_t asked, uint64_t listed, struct reason *reason);
+int read_box_number(const uint8_t *bytes, size_t count, unsigned *number);
+void answer_file(const uint8_t *bytes, size_t count, uint64_t asked, uint64_t listed, struct answer *answer);
+enum refusal answer_into(const uint8_t *bytes, size_t count, uint64_t asked, uint64_t listed, uint8_t *slice,
+                         size_t length, struct answer *answer);
 
 /* inout.c */
 void read_from(const char *name);

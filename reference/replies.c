@@ -1,10 +1,8 @@
-/* The replies to a stream of requests, in the format of docs/REQUESTS.md: the stream, and kinds 1 to 20 and 34. */
+/* The replies to a stream of requests, in the format of docs/REQUESTS.md: the stream, and kinds 1 to 20, 34 and 35. */
 #include "replies.h"
 
-enum { STATE_BYTES = 143 };
-
-/* It came later than the kinds of textreplies.c, but it stands in the streams of kinds 1 to 20. */
-enum { CONFIDENCE_KIND = 34 };
+/* A state before its rows, and one of its reasons. */
+enum { LEAD_BYTES = 13, REASON_BYTES = 3 };
 
 uint8_t bytes[MOST_FILE_BYTES];
 uint64_t rows[MOST_LENT];
@@ -52,22 +50,40 @@ static int take_boxes(struct state *state)
     return 1;
 }
 
+static int take_reasons(struct state *state)
+{
+    if (!take_bytes(REASON_BYTES * MOST_REASONS))
+        return 0;
+    for (size_t i = 0; i < MOST_REASONS; i++) {
+        const uint8_t *reason = bytes + REASON_BYTES * i;
+        state->reason[i] = (struct reason){reason[0], reason[1], reason[2]};
+    }
+    return 1;
+}
+
 static int take_state(struct state *state)
 {
-    if (!take_bytes(STATE_BYTES - 10 * MOST_BOXES))
+    if (!take_bytes(LEAD_BYTES))
         return 0;
     state->n = bytes[0];
     state->t = bytes[1];
     state->faulty = (uint16_t)big_endian(bytes + 2, 2);
     state->done = bytes[4];
     state->sent = big_endian(bytes + 5, 8);
-    return take_boxes(state);
+    return take_boxes(state) && take_reasons(state);
 }
 
 void put_reply(const char *name, uint64_t number)
 {
     put_word(name);
     put_number(number);
+}
+
+static void put_reason(const struct reason *reason)
+{
+    put_number(reason->iteration);
+    put_number(reason->confidence);
+    put_number(reason->support);
 }
 
 static void put_state(const struct state *state)
@@ -81,6 +97,8 @@ static void put_state(const struct state *state)
         put_number(state->row[i]);
     for (size_t i = 0; i < MOST_BOXES; i++)
         put_number(state->list[i]);
+    for (size_t i = 0; i < MOST_REASONS; i++)
+        put_reason(&state->reason[i]);
 }
 
 void fill_lent(size_t length)
@@ -365,6 +383,19 @@ static int reply_confidence(void)
     return 1;
 }
 
+static int reply_why(void)
+{
+    uint64_t asked, listed;
+    struct state state;
+    struct reason reason;
+    if (!take_state(&state) || !take_number(8, &asked) || !take_number(8, &listed))
+        return 0;
+    put_reply("why", why(&state, asked, listed, &reason));
+    put_reason(&reason);
+    put_state(&state);
+    return 1;
+}
+
 /* In the order of their kinds, which begin with 1. */
 static int (*const REPLIES[])(void) = {
     reply_vote, reply_grade, reply_choice, reply_start, reply_iteration, reply_heading, reply_table, reply_largest,
@@ -372,14 +403,22 @@ static int (*const REPLIES[])(void) = {
     reply_listing, reply_outcome, reply_none
 };
 
+/* Those that came later than the kinds of textreplies.c. */
+static int (*const LATER[])(void) = {reply_confidence, reply_why, reply_number, reply_answer};
+
+enum {
+    FIRST_TEXT = 1 + sizeof REPLIES / sizeof REPLIES[0],
+    FIRST_LATER = FIRST_TEXT + TEXT_REPLIES,
+    LAST_KIND = FIRST_LATER + sizeof LATER / sizeof LATER[0] - 1
+};
+
 static int reply_to(uint64_t kind)
 {
-    const uint64_t count = sizeof REPLIES / sizeof REPLIES[0];
-    if (kind == CONFIDENCE_KIND)
-        return reply_confidence();
-    if (kind < 1 || kind > count + TEXT_REPLIES)
+    if (kind < 1 || kind > LAST_KIND)
         return 0;
-    return kind <= count ? REPLIES[kind - 1]() : TEXTS[kind - 1 - count]();
+    if (kind >= FIRST_LATER)
+        return LATER[kind - FIRST_LATER]();
+    return kind >= FIRST_TEXT ? TEXTS[kind - FIRST_TEXT]() : REPLIES[kind - 1]();
 }
 
 void answer_requests(void)

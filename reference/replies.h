@@ -25,4 +25,8 @@ void put_text(size_t length);
 enum { TEXT_REPLIES = 13 };
 extern int (*const TEXTS[TEXT_REPLIES])(void);
 
+/* textreplies.c, kinds 36 and 37. */
+int reply_number(void);
+int reply_answer(void);
+
 #endif

@@ -205,7 +205,58 @@ static uint64_t most_messages(unsigned n)
     return (uint64_t)n * (n - 1) * (1 + 2 * n);
 }
 
-static int state_is_wrong(const struct state *state)
+/* The reason of box i for leader k, both from 0: thirteen places for each box, however many boxes there are. */
+size_t reason_place(unsigned box, unsigned leader)
+{
+    return (size_t)MOST_BOXES * box + leader;
+}
+
+/* What refusal 14 says of reasons, case by case. */
+static int is_without_iteration(int listed, const struct reason *reason)
+{
+    return listed && reason->iteration == 0;
+}
+
+static int is_kept_without_listing(int listed, const struct reason *reason)
+{
+    return !listed && (reason->iteration != 0 || reason->confidence != 0 || reason->support != 0);
+}
+
+static int is_not_yet_done(const struct reason *reason, unsigned done)
+{
+    return reason->iteration > done;
+}
+
+static int is_too_sure(const struct reason *reason)
+{
+    return reason->confidence > 1;
+}
+
+/* Confidence 0 goes with at most t, confidence 1 with more than t and less than 2t + 1. */
+static int is_unfit(const struct reason *reason, unsigned t)
+{
+    if (reason->confidence == 0)
+        return reason->support > t;
+    return reason->confidence == 1 && (reason->support <= t || reason->support >= 2 * t + 1);
+}
+
+static int reason_is_wrong(const struct state *state, int listed, const struct reason *reason)
+{
+    return is_without_iteration(listed, reason) || is_kept_without_listing(listed, reason) ||
+           is_not_yet_done(reason, state->done) || is_too_sure(reason) || is_unfit(reason, state->t);
+}
+
+/* All 169 places, those of faulty boxes and those above n too. */
+static int some_reason_is_wrong(const struct state *state)
+{
+    for (unsigned i = 0; i < MOST_BOXES; i++)
+        for (unsigned k = 0; k < MOST_BOXES; k++)
+            if (reason_is_wrong(state, in_set(state->list[i], k), &state->reason[reason_place(i, k)]))
+                return 1;
+    return 0;
+}
+
+int state_is_wrong(const struct state *state)
 {
     for (unsigned i = 0; i < MOST_BOXES; i++) {
         int sound = i < state->n && !in_set(state->faulty, i);
@@ -214,16 +265,25 @@ static int state_is_wrong(const struct state *state)
         if (has_stray_bit(state->n, state->list[i]))
             return 1;
     }
+    if (some_reason_is_wrong(state))
+        return 1;
     return state->sent > state->done * most_messages(state->n);
+}
+
+/* What each call on a state tests first: 4, 5, 6 and 9. */
+enum refusal check_boxes(const struct state *state)
+{
+    enum refusal refusal = check_n_t_faulty(state->n, state->t, state->faulty);
+    if (refusal == FINE && sound_row_is_zero(state->row, state->n, state->faulty))
+        return ZERO_ROW;
+    return refusal;
 }
 
 static enum refusal check_iteration(const struct state *state, size_t count)
 {
-    enum refusal refusal = check_n_t_faulty(state->n, state->t, state->faulty);
+    enum refusal refusal = check_boxes(state);
     if (refusal != FINE)
         return refusal;
-    if (sound_row_is_zero(state->row, state->n, state->faulty))
-        return ZERO_ROW;
     if (count != table_rows(state->n))
         return WRONG_LENGTH;
     if (state->done > state->t)
@@ -347,6 +407,18 @@ enum refusal steps(uint64_t n, const struct state *from, const uint64_t *table, 
     return FINE;
 }
 
+/* Leader k comes on the list of box i, and the reason is kept: the iteration is the one after those done. A leader that
+   was on the list before keeps the reason that it has. */
+static void join(struct state *next, unsigned i, unsigned k, const struct cast *cast)
+{
+    size_t found = (size_t)i * next->n + k;
+    if (in_set(next->list[i], k))
+        return;
+    next->list[i] |= (uint16_t)(1u << k);
+    next->reason[reason_place(i, k)] =
+        (struct reason){(uint8_t)(next->done + 1), cast->confidence[found], cast->support[found]};
+}
+
 /* Step 5 for box i: its new row, and the leaders that join its list. */
 static void step_five(struct state *next, unsigned i, const struct cast *cast)
 {
@@ -355,7 +427,7 @@ static void step_five(struct state *next, unsigned i, const struct cast *cast)
     const uint8_t *confidences = cast->confidence + i * n;
     for (unsigned k = 0; k < n; k++)
         if (confidences[k] < 2)
-            next->list[i] |= (uint16_t)(1u << k);
+            join(next, i, k, cast);
     struct choice chosen = choice_over(rows, confidences, n);
     if (chosen.row != 0)
         next->row[i] = chosen.row;

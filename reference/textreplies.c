@@ -1,4 +1,5 @@
-/* The replies to the requests of kinds 21 to 33, about the writer and the text of run files. */
+/* The replies to the requests of kinds 21 to 33, about the writer and the text of run files, and of 36 and 37, about
+   why a box is listed. */
 #include "replies.h"
 
 enum { MAKER_BYTES = 23 };
@@ -221,6 +222,33 @@ static int reply_settled(void)
     if (!take_maker(&maker) || !take_length(2, MOST_LENT, &length) || take(line, length) != length)
         return 0;
     put_reply("settled", (uint64_t)is_settled(&maker, line, length));
+    return 1;
+}
+
+int reply_number(void)
+{
+    uint64_t count;
+    unsigned number;
+    if (!take_length(2, MOST_LENT, &count) || !take_bytes(count))
+        return 0;
+    put_reply("number", (uint64_t)read_box_number(bytes, count, &number));
+    put_number(number);
+    return 1;
+}
+
+int reply_answer(void)
+{
+    uint64_t asked, listed, length, count;
+    struct answer answer;
+    if (!take_number(8, &asked) || !take_number(8, &listed) || !take_length(2, MOST_LENT, &length))
+        return 0;
+    if (!take_length(4, MOST_FILE_BYTES, &count) || !take_bytes(count))
+        return 0;
+    fill_text(length);
+    put_reply("answer", answer_into(bytes, count, asked, listed, text, length, &answer));
+    put_number(answer.size);
+    put_number(answer.ends);
+    put_text(length);
     return 1;
 }
 

@@ -1,6 +1,7 @@
 """Requests from seeds, in the format of docs/REQUESTS.md: all calls, and the edges of kinds 1 to 7.
 
-One proved program answers kinds 1 to 20 and 34, another one kinds 21 to 33. So a stream has kinds of one group alone.
+One proved program answers kinds 1 to 20, 34 and 35, another one kinds 21 to 33, 36 and 37. So a stream has kinds of one
+group alone.
 """
 
 import struct
@@ -9,9 +10,13 @@ from itertools import permutations
 import calls
 import further
 import makers
+import reasons
 import texts
-from calls import PLACES, Request, column_line, most_messages, packed, pick_faulty, state_bytes, state_line
+import whys
+from calls import (PLACES, Request, column_line, fitting, iteration_bytes, most_messages, packed, pick_faulty,
+                   state_bytes, state_line)
 from runfiles import TOP, Table, bits, heading_bytes, largest_t, table_rows
+from staterules import State, iteration_line
 from steprules import at_support
 
 # In the order of their kinds.
@@ -20,11 +25,11 @@ CALLS = {"vote": calls.Vote, "grade": calls.Grade, "choice": calls.Choice, "star
          "rows": further.Rows, "sizes": further.Sizes, "member": further.Member, "stray": further.Stray,
          "zero": further.Zero, "steps": further.Steps, "line": further.Line, "put": further.Put, "part": further.Part,
          "listing": further.Listing, "outcome": further.Outcome, "none": further.NoRun,
-         "confidence": further.Confidence}
+         "confidence": further.Confidence, "why": reasons.Why}
 TEXT_CALLS = {"headed": texts.Headed, "tabled": texts.Tabled, "read": texts.Read, "place": texts.Place,
               "say": texts.Say, "taken": makers.Taken, "ended": makers.Ended, "told": texts.Told,
               "shown": texts.Shown, "maker": texts.NoText, "row": texts.Row, "begins": texts.Begins,
-              "settled": makers.Settled}
+              "settled": makers.Settled, "number": whys.Number, "answer": whys.Answer}
 ALL = {**CALLS, **TEXT_CALLS}
 
 
@@ -59,20 +64,32 @@ def every_damage(rng, name):
 
 
 def wild_iteration(rng):
-    """A state of which every part is drawn for itself, small enough that it sometimes passes."""
+    """A state of which every part is drawn for itself, small enough that it sometimes passes. One in five has boxes on
+    its lists and no reasons, or one reason that is drawn for itself."""
     n = rng.randrange(15)
     few = min(n, PLACES)
     rows = [rng.choice((0, 1, 1, 2)) if rng.random() < 0.1 else rng.randrange(1, 3) for _ in range(few)]
     faulty = rng.randrange(1 << rng.choice((n, n, 16))) if rng.random() < 0.5 else 0
     rows = [0 if faulty >> k & 1 and rng.random() < 0.9 else row for k, row in enumerate(rows)]
-    lists = [rng.randrange(1 << few) if row else 0 for row in rows]
+    t, done = rng.randrange(6), rng.randrange(6)
+    lists = [rng.randrange(1 << few) if row and done else 0 for row in rows]
     rows += [0] * (PLACES - few)
     lists += [0] * (PLACES - few)
     if rng.random() < 0.2:
         lists[rng.randrange(PLACES)] ^= 1 << rng.randrange(16)
     table = [rng.randrange(3) for _ in range(table_rows(few) + (rng.random() < 0.1))]
-    state = state_bytes(n, rng.randrange(6), faulty, rng.randrange(6), rng.randrange(9), rows, lists)
-    return Request(b"\5" + state + struct.pack(">H", len(table)) + packed(table), "iteration, wild state")
+    state = State(n, t, faulty, done, rng.randrange(9), rows, lists, wild_reasons(rng, t, done, lists))
+    return Request(iteration_bytes(state, table), "iteration, wild state", None, iteration_line(state, table))
+
+
+def wild_reasons(rng, t, done, lists):
+    places = [(i, k) for i, listed in enumerate(lists) for k in range(PLACES) if listed >> k & 1]
+    if not done or rng.random() < 0.1:
+        return {}
+    found = {place: fitting(rng, t, done) for place in places}
+    if rng.random() < 0.1:
+        found[rng.randrange(PLACES), rng.randrange(PLACES)] = tuple(rng.randrange(7) for _ in range(3))
+    return found
 
 
 def wild_heading(rng):
@@ -89,9 +106,10 @@ def wild_heading(rng):
 OFTEN = ("vote", "grade", "grade", "choice", "choice", "start", "iteration", "iteration", "iteration", "heading",
          "table")
 FURTHER = ("largest", "rows", "sizes", "member", "stray", "zero", "steps", "steps", "steps", "line", "line", "put",
-           "put", "part", "part", "listing", "outcome", "confidence")
+           "put", "part", "part", "listing", "outcome", "confidence", "why", "why", "why")
 TEXTS = ("headed", "headed", "tabled", "read", "read", "read", "place", "place", "say", "say", "taken", "taken",
-         "taken", "ended", "ended", "told", "shown", "shown", "row", "row", "begins", "settled", "settled")
+         "taken", "ended", "ended", "told", "shown", "shown", "row", "row", "begins", "settled", "settled", "number",
+         "number", "answer", "answer", "answer")
 
 
 def any_request(rng):
@@ -298,7 +316,7 @@ def about_messages(refusal):
 
 def too_long():
     """What it is, and a request with a length above its limit and all the bytes that it names."""
-    yield "table of an iteration too long", b"\5" + bytes(143) + struct.pack(">H", 5001) + bytes(8 * 5001)
+    yield "table of an iteration too long", b"\5" + bytes(650) + struct.pack(">H", 5001) + bytes(8 * 5001)
     yield "lent slice too long", struct.pack(">BBHH", 7, 1, 24, 5001) + bytes(24)
     yield "table of steps too long", b"\16" + bytes(8 + 1 + 2 + 130) + struct.pack(">H", 5001) + bytes(8 * 5001)
     yield "slice of a line too long", struct.pack(">BHBB", 15, 5001, 1, 0) + b"a"
@@ -310,7 +328,7 @@ def too_long():
 
 
 def text_too_long():
-    """The same of kinds 21 to 33."""
+    """The same of kinds 21 to 33, 36 and 37."""
     maker = bytes(23)
     yield "slice of a heading too long", struct.pack(">BBBHBH", 21, 1, 0, 0, 1, 5001) + bytes(8)
     yield "table to be written too long", struct.pack(">BBHH", 22, 13, 5001, 9) + bytes(8 * 5001)
@@ -328,13 +346,16 @@ def text_too_long():
     yield "file of a part too long", struct.pack(">BQII", 29, 0, 1, 200001) + bytes(200001)
     yield "slice of a row too long", struct.pack(">BQQH", 31, 7, 0, 5001)
     yield "lent line that may be settled too long", b"\41" + maker + struct.pack(">H", 5001) + bytes(5001)
+    yield "bytes of a number too long", struct.pack(">BH", 36, 5001) + b"1" * 5001
+    yield "slice of an answer too long", struct.pack(">BQQHI", 37, 1, 1, 5001, 1) + bytes(1)
+    yield "file of an answer too long", struct.pack(">BQQHI", 37, 1, 1, 64, 200001) + bytes(200001)
 
 
 def bad_ends(rng, group, too_long_ones):
     """How a stream may end: with a request that is unknown or too long and good ones behind it, with one that is cut,
     or as it should. None of this has a reply."""
     good = b"".join(broken(rng, name, ()).data for name in group)
-    for kind in (0, 35, 36, 72, 255):
+    for kind in (0, 38, 39, 72, 255):
         yield f"kind {kind}", bytes((kind,)) + good
     for about, data in too_long_ones:
         yield about, data + good
@@ -343,6 +364,11 @@ def bad_ends(rng, group, too_long_ones):
         yield f"{name} without its last byte", broken(rng, name, ()).data[:-1]
     if "confidence" in group:
         yield "confidence without both its bytes", broken(rng, "confidence", ()).data[:1]
+    if "why" in group:
+        data = broken(rng, "why", ()).data
+        for about, length in (("its second box", 8), ("its boxes", 16), ("the last byte of its state", 17),
+                              ("its reasons", 16 + 507)):
+            yield f"why without {about}", data[:-length]
     for name in rng.sample(longer, 5):
         data = broken(rng, name, ()).data
         yield f"{name} cut", data[:rng.choice((1, rng.randrange(1, len(data))))]

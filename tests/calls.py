@@ -8,13 +8,15 @@ import struct
 
 from runfiles import (TOP, Minds, Run, add_iteration, bits, heading_bytes, high_rows, largest_t, put, some_rows,
                       table_rows)
+from staterules import State, iteration_line, most_messages
 from steprules import PLACES, graded, size_refusal, voted
 
 
 class Request:
     """The bytes of one request, what it is for, and what is known of its reply beforehand, if anything.
 
-    With `as_before` the reply must be that of the request before it. `shows` has the names of what arises in it.
+    With `as_before` the reply must be that of the request before it. `shows` has what arises in it, each as the name of
+    a group of such things and its own name.
     """
 
     def __init__(self, data, about, refusal=None, reply=None, as_before=False, shows=()):
@@ -36,19 +38,12 @@ class Call:
         return None
 
 
-def state_line(name, refusal, n, t, faulty, done, sent, rows, lists):
-    rows, lists = rows + [0] * (PLACES - len(rows)), lists + [0] * (PLACES - len(lists))
-    return " ".join(str(number) for number in (name, refusal, n, t, faulty, done, sent, *rows, *lists))
+def state_line(name, refusal, *parts):
+    return " ".join(str(number) for number in (name, refusal, *State(*parts).numbers()))
 
 
-def state_bytes(n, t, faulty, done, sent, rows, lists):
-    rows, lists = rows + [0] * (PLACES - len(rows)), lists + [0] * (PLACES - len(lists))
-    return struct.pack(">BBHBQ13Q13H", n, t, faulty, done, sent, *rows, *lists)
-
-
-def most_messages(n):
-    """The most that one iteration sends: each of n boxes to n - 1 others, one row and then twice n of them."""
-    return n * (n - 1) * (1 + 2 * n)
+def state_bytes(*parts):
+    return State(*parts).to_bytes()
 
 
 def packed(rows):
@@ -188,27 +183,49 @@ class Start(Call):
         return struct.pack(">BBBHB", 4, self.n, self.t, self.faulty, len(self.rows)) + packed(self.rows)
 
 
-class Iteration(Call):
-    """A state that need not have come from a run, and a table."""
+def fitting(rng, t, done):
+    """A reason that passes where so many iterations are done, often at an edge."""
+    support = rng.choice((0, t, rng.randrange(t + 1)))
+    later = rng.choice((t + 1, 2 * t, rng.randrange(t + 1, 2 * t + 1))) if t else 0
+    confidence, support = rng.choice(((0, support), (1, later) if t else (0, 0)))
+    return rng.choice((1, done, rng.randrange(1, done + 1))), confidence, support
 
-    damages = ((4, "break_4"), (5, "break_5"), (6, "break_6"), (9, "break_9"), (11, "break_11"), (12, "break_12"),
-               (14, "break_list_bit"), (14, "break_faulty_row"), (14, "break_faulty_list"), (14, "break_unused_row"),
-               (14, "break_unused_list"), (14, "break_messages"))
 
-    def __init__(self, rng):
-        self.n, self.t = pick_n_t(rng)
-        self.boxes = pick_faulty(rng, self.n)
+class Stated(Call):
+    """A state that need not have come from a run. Its damages 14 are those that every call on a state has."""
+
+    wrong_states = ((14, "break_list_bit"), (14, "break_faulty_row"), (14, "break_faulty_list"),
+                    (14, "break_unused_row"), (14, "break_unused_list"), (14, "break_messages"),
+                    (14, "break_unsaid"), (14, "break_unlisted"), (14, "break_undone"), (14, "break_sure"),
+                    (14, "break_unfit"))
+
+    def draw(self, rng, most_done, boxes):
+        """Half of the states are those after the most iterations: before the first one all lists are empty."""
+        self.boxes = boxes
         self.faulty = bits(self.boxes)
-        self.done = rng.randrange(self.t + 1)
+        self.done = rng.choice((most_done, rng.randrange(most_done + 1)))
         most = self.done * most_messages(self.n)
         self.sent = rng.choice((most, rng.randrange(most + 1)))
-        self.rows, self.lists = [0] * PLACES, [0] * PLACES
+        self.rows, self.lists, self.reasons = [0] * PLACES, [0] * PLACES, {}
         rows = rng.choice((some_rows, high_rows))(rng, self.n)
-        thin = rng.choice((0, 1, 2))
+        thin = rng.choice((0, 1, 2)) if self.may_list() else 0
         for i in set(range(self.n)) - self.boxes:
             self.rows[i] = rows[i]
             self.lists[i] = self.pick_list(rng, thin)
-        self.table = self.pick_table(rng)
+        self.explain(rng)
+
+    def may_list(self):
+        return self.done > 0
+
+    def explain(self, rng):
+        """Fitting reasons for the listings that have none. No reason fits where no iteration is done."""
+        for i in range(PLACES):
+            for k in range(PLACES):
+                if self.done and self.lists[i] >> k & 1 and (i, k) not in self.reasons:
+                    self.reasons[i, k] = fitting(rng, self.t, self.done)
+
+    def state(self):
+        return State(self.n, self.t, self.faulty, self.done, self.sent, self.rows, self.lists, self.reasons)
 
     def pick_list(self, rng, thin):
         """Empty, the faulty boxes, or any boxes, sound ones and the box itself too."""
@@ -217,20 +234,6 @@ class Iteration(Call):
         if thin == 1:
             return self.faulty & rng.randrange(1 << self.n)
         return rng.randrange(1 << self.n) & rng.randrange(1 << self.n)
-
-    def pick_table(self, rng):
-        how = rng.randrange(3)
-        stock = [0, 0] + [row for row in self.rows if row] + [rng.randrange(TOP + 1)]
-        if how == 0:
-            return [rng.choice(stock) for _ in range(table_rows(self.n))]
-        if how == 1:
-            return [rng.randrange(TOP + 1)] * table_rows(self.n)
-        run = Run(self.n, self.t, self.boxes, self.rows[:self.n], "state")
-        minds = Minds(run, rng)
-        minds.list = [{k for k in range(self.n) if self.lists[i] >> k & 1} for i in range(self.n)]
-        lying = [k for k in self.boxes if rng.random() < 0.9]
-        add_iteration(run, minds, lying, [k for k in lying if rng.random() < 0.5])
-        return run.tables[0].rows
 
     def sound_place(self, rng):
         """A sound box, one made sound where there is none."""
@@ -247,6 +250,7 @@ class Iteration(Call):
             self.boxes.add(at)
             self.faulty |= 1 << at
             self.rows[at] = self.lists[at] = 0
+            self.reasons = {place: reason for place, reason in self.reasons.items() if place[0] != at}
         return rng.choice(sorted(self.boxes))
 
     def unused_place(self, rng):
@@ -262,9 +266,11 @@ class Iteration(Call):
     def break_unused_list(self, rng):
         at = self.unused_place(rng)
         self.lists[at] = rng.choice((1, 1 << 15))
+        self.explain(rng)
 
     def break_list_bit(self, rng):
         self.lists[self.sound_place(rng)] |= 1 << rng.randrange(self.n, 16)
+        self.explain(rng)
 
     def break_faulty_row(self, rng):
         self.rows[self.faulty_place(rng)] = rng.choice((1, 2**32, TOP))
@@ -272,6 +278,7 @@ class Iteration(Call):
     def break_faulty_list(self, rng):
         at = self.faulty_place(rng)
         self.lists[at] = rng.choice((1, 1 << at, (1 << self.n) - 1))
+        self.explain(rng)
 
     def break_messages(self, rng):
         """One too many, as many as one more iteration could send, as many as the tables have rows, one more than that,
@@ -280,13 +287,33 @@ class Iteration(Call):
         counts = most + 1, most + most_messages(self.n), rows, rows + 1, most + 2**32, TOP
         self.sent = rng.choice([count for count in counts if count > most])
 
-    def break_12(self, rng):
-        self.done = rng.choice((self.t + 1, self.t + 1, self.t + 2, 255))
+    def list_with(self, rng, *reasons):
+        """A sound box lists a box with one of these reasons, whatever reason it had before."""
+        i, k = self.sound_place(rng), rng.randrange(self.n)
+        self.lists[i] |= 1 << k
+        self.reasons[i, k] = rng.choice(reasons)
 
-    def break_11(self, rng):
-        whole = table_rows(self.n)
-        count = rng.choice([c for c in (0, whole - 1, whole + 1, table_rows(PLACES), 5000, self.n) if c != whole])
-        self.table = (self.table + [7] * count)[:count]
+    def break_unsaid(self, rng):
+        t = self.t
+        self.list_with(rng, (0, 0, 0), (0, 0, t), (0, 1, t + 1))
+
+    def break_unlisted(self, rng):
+        """In any of the 169 places."""
+        i, k = rng.randrange(PLACES), rng.randrange(PLACES)
+        self.lists[i] &= ~(1 << k)
+        self.reasons[i, k] = rng.choice(((max(self.done, 1), 0, 0), (0, 0, max(self.t, 1)), (0, 1, self.t + 1)))
+
+    def break_undone(self, rng):
+        after = min(self.done + 1, 255)
+        self.list_with(rng, (after, 0, 0), (after, 0, self.t), (255, 0, 0))
+
+    def break_sure(self, rng):
+        done = max(self.done, 1)
+        self.list_with(rng, (done, 2, 2 * self.t + 1), (done, 2, 0), (done, 255, self.t + 1), (done, 128, 0))
+
+    def break_unfit(self, rng):
+        t, done = self.t, max(self.done, 1)
+        self.list_with(rng, (done, 0, t + 1), (done, 1, t), (done, 1, 2 * t + 1), (done, 0, 255), (done, 1, 255))
 
     def break_9(self, rng):
         self.rows[self.sound_place(rng)] = 0
@@ -300,9 +327,49 @@ class Iteration(Call):
     def break_4(self, rng):
         self.n = wrong_n(rng)
 
+
+class Iteration(Stated):
+    """A state and a table."""
+
+    damages = ((4, "break_4"), (5, "break_5"), (6, "break_6"), (9, "break_9"), (11, "break_11"), (12, "break_12"),
+               *Stated.wrong_states)
+
+    def __init__(self, rng):
+        self.n, self.t = pick_n_t(rng)
+        self.draw(rng, self.t, pick_faulty(rng, self.n))
+        self.table = self.pick_table(rng)
+
+    def pick_table(self, rng):
+        how = rng.randrange(3)
+        stock = [0, 0] + [row for row in self.rows if row] + [rng.randrange(TOP + 1)]
+        if how == 0:
+            return [rng.choice(stock) for _ in range(table_rows(self.n))]
+        if how == 1:
+            return [rng.randrange(TOP + 1)] * table_rows(self.n)
+        run = Run(self.n, self.t, self.boxes, self.rows[:self.n], "state")
+        minds = Minds(run, rng)
+        minds.list = [{k for k in range(self.n) if self.lists[i] >> k & 1} for i in range(self.n)]
+        lying = [k for k in self.boxes if rng.random() < 0.9]
+        add_iteration(run, minds, lying, [k for k in lying if rng.random() < 0.5])
+        return run.tables[0].rows
+
+    def break_12(self, rng):
+        self.done = rng.choice((self.t + 1, self.t + 1, self.t + 2, 255))
+
+    def break_11(self, rng):
+        whole = table_rows(self.n)
+        count = rng.choice([c for c in (0, whole - 1, whole + 1, table_rows(PLACES), 5000, self.n) if c != whole])
+        self.table = (self.table + [7] * count)[:count]
+
     def to_bytes(self):
-        state = state_bytes(self.n, self.t, self.faulty, self.done, self.sent, self.rows, self.lists)
-        return b"\5" + state + struct.pack(">H", len(self.table)) + packed(self.table)
+        return iteration_bytes(self.state(), self.table)
+
+    def known(self):
+        return iteration_line(self.state(), self.table)
+
+
+def iteration_bytes(state, table):
+    return b"\5" + state.to_bytes() + struct.pack(">H", len(table)) + packed(table)
 
 
 class Heading(Call):

@@ -87,27 +87,41 @@ def sizes():
     yield struct.pack(">BBBHB", 4, 3, 255, 0, 3) + packed([5, 6, 7]), state_line("start", 5, 0, 0, 0, 0, 0, [], [])
 
 
-def iteration(n, t, faulty, done, sent, rows, lists, table):
-    state = state_bytes(n, t, faulty, done, sent, rows, lists)
+def iteration(n, t, faulty, done, sent, rows, lists, table, reasons=None):
+    state = state_bytes(n, t, faulty, done, sent, rows, lists, reasons)
     return b"\5" + state + struct.pack(">H", len(table.rows)) + packed(table.rows)
 
 
+def kept(reasons):
+    """Reasons by two boxes that count from 1: the one whose list it is, and the one that is listed."""
+    return {(box - 1, leader - 1): reason for (box, leader), reason in reasons.items()}
+
+
+# All three list box 4 in the first iteration: boxes 1 and 3 find confidence 0 and support 1, box 2 finds 1 and 2.
+S_KEPT = kept({(1, 4): (1, 0, 1), (2, 4): (1, 1, 2), (3, 4): (1, 0, 1)})
+
+
 def iterations():
-    """Case S, first 75 messages and then 63, and a third iteration, which is one too many."""
+    """Case S, first 75 messages and then 63, and a third iteration, which is one too many. In the second one nobody
+    hears anything about box 4, so all find support 0, but the reasons stay."""
     steps = ([10, 20, 30], []), ([10, 20, 10], [8, 8, 8]), ([10, 10, 10], [8, 8, 8])
+    reasons = {}, S_KEPT, S_KEPT
     sent = 0, 75, 138
     for done, table in enumerate((case_s_table(), Table(4))):
-        yield (iteration(4, 1, 8, done, sent[done], *steps[done], table),
-               state_line("iteration", 0, 4, 1, 8, done + 1, sent[done + 1], *steps[done + 1]))
-    yield (iteration(4, 1, 8, 2, 138, *steps[2], Table(4)), state_line("iteration", 12, 4, 1, 8, 2, 138, *steps[2]))
+        yield (iteration(4, 1, 8, done, sent[done], *steps[done], table, reasons[done]),
+               state_line("iteration", 0, 4, 1, 8, done + 1, sent[done + 1], *steps[done + 1], reasons[done + 1]))
+    for after in (S_KEPT, {}):
+        yield (iteration(4, 1, 8, 2, 138, *steps[2], Table(4), after),
+               state_line("iteration", 12, 4, 1, 8, 2, 138, *steps[2], after))
 
 
 def two_boxes():
     """Few enough that each message can be counted: each goes from one box to the other."""
     # Both sound: one row each in step 1, two each in steps 2 and 3. That is the most there can be.
     yield (iteration(2, 0, 0, 0, 0, [5, 6], [], Table(2)), state_line("iteration", 0, 2, 0, 0, 1, 10, [5, 5], []))
-    # Box 2 faulty and silent: box 1 sends its row, then sends it on, and has no vote. It lists both.
-    yield (iteration(2, 0, 2, 0, 0, [5], [], Table(2)), state_line("iteration", 0, 2, 0, 2, 1, 2, [5], [3]))
+    # Box 2 faulty and silent: box 1 sends its row, then sends it on, and has no vote. It lists both, itself too.
+    yield (iteration(2, 0, 2, 0, 0, [5], [], Table(2)),
+           state_line("iteration", 0, 2, 0, 2, 1, 2, [5], [3], kept({(1, 1): (1, 0, 0), (1, 2): (1, 0, 0)})))
     # Box 2 faulty and always with 9: box 1 sends 5, then 5 and 9, then its vote 9 on box 2; it grades both with 9.
     nines = Table(2, lambda: 9)
     yield (iteration(2, 0, 2, 0, 0, [5], [], nines), state_line("iteration", 0, 2, 0, 2, 1, 4, [9], []))
@@ -122,12 +136,98 @@ def at_the_limit():
     """A state with the most messages there can be, and one more: case S, where an iteration sends at most 108, and
     thirteen sound boxes, who send 4,212 in each. For four boxes 144 is the number of a table's rows."""
     rows, lists, table = [10, 20, 10], [8, 8, 8], Table(4)
-    yield iteration(4, 1, 8, 1, 108, rows, lists, table), state_line("iteration", 0, 4, 1, 8, 2, 171, [10] * 3, lists)
+    yield (iteration(4, 1, 8, 1, 108, rows, lists, table, S_KEPT),
+           state_line("iteration", 0, 4, 1, 8, 2, 171, [10] * 3, lists, S_KEPT))
     for sent in (109, 144, 145):
-        due = state_line("iteration", 14, 4, 1, 8, 1, sent, rows, lists)
-        yield iteration(4, 1, 8, 1, sent, rows, lists, table), due
+        due = state_line("iteration", 14, 4, 1, 8, 1, sent, rows, lists, S_KEPT)
+        yield iteration(4, 1, 8, 1, sent, rows, lists, table, S_KEPT), due
     for sent, due in ((16848, (0, 13, 4, 0, 5, 21060)), (16849, (14, 13, 4, 0, 4, 16849))):
         yield iteration(13, 4, 0, 4, sent, [3] * 13, [], Table(13)), state_line("iteration", *due, [3] * 13, [])
+
+
+def joining():
+    """Who joins a list, with which reason, and whose reason stays."""
+    # Case S, but an iteration is done in which nobody was listed: all join in the second.
+    later = kept({(1, 4): (2, 0, 1), (2, 4): (2, 1, 2), (3, 4): (2, 0, 1)})
+    yield (iteration(4, 1, 8, 1, 0, [10, 20, 30], [], case_s_table()),
+           state_line("iteration", 0, 4, 1, 8, 2, 75, [10, 20, 10], [8, 8, 8], later))
+    # The same, but box 2 listed box 4 before, with support 0. It hears of box 4 from boxes 1 and 3 alone, of whom box 1
+    # sends 20 and box 3 sends 99, and in step 3 from box 1, if that has a vote. Box 1 still hears 20, 0, 99, 20 about
+    # box 4, which is no vote now. So boxes 1 and 3 find support 0. Messages: 9, then 4 + 3 + 4 rows, then 3 each, to 3.
+    before, after = kept({(2, 4): (1, 0, 0)}), kept({(1, 4): (2, 0, 0), (2, 4): (1, 0, 0), (3, 4): (2, 0, 0)})
+    yield (iteration(4, 1, 8, 1, 0, [10, 20, 30], [0, 8], case_s_table(), before),
+           state_line("iteration", 0, 4, 1, 8, 2, 69, [10, 10, 10], [8, 8, 8], after))
+    # n = 7, t = 2, boxes 6 and 7 faulty. All sound boxes list box 7 already, two of them with confidence 1. Box 6 is
+    # silent and joins. Five boxes send to six others: one row, and five each in steps 2 and 3. All take the lowest row.
+    rows, reasons = [10, 20, 30, 40, 50], {1: (1, 0, 2), 2: (1, 1, 3), 3: (1, 1, 4), 4: (1, 0, 0), 5: (1, 0, 1)}
+    before = kept({(i, 7): reason for i, reason in reasons.items()})
+    after = kept({(i, 6): (2, 0, 0) for i in reasons}) | before
+    yield (iteration(7, 2, 96, 1, 0, rows, [64] * 5, Table(7), before),
+           state_line("iteration", 0, 7, 2, 96, 2, 330, [10] * 5, [96] * 5, after))
+    # n = 4, t = 1, boxes 3 and 4 faulty, which is one too many. Nobody has a vote, and what the faulty boxes say in
+    # step 3 gives leader 1 support 2 with box 1 and support 1 with box 2. Both list everybody, themselves too. Box 1
+    # counts leader 1, box 2 nobody. Then nobody hears anybody, and each tells three others its row: 18 messages and 6.
+    table = Table(4)
+    table.rows = third(4, (3, 1, 1, 10), (4, 1, 1, 10), (3, 2, 1, 10))
+    listed = kept({(i, k): (1, 0, 0) for i in (1, 2) for k in (1, 2, 3, 4)} | {(1, 1): (1, 1, 2), (2, 1): (1, 0, 1)})
+    after = 4, 1, 12, 1, 18, [10, 20], [15, 15]
+    yield iteration(4, 1, 12, 0, 0, [10, 20], [], table), state_line("iteration", 0, *after, listed)
+    yield (iteration(*after, table, listed), state_line("iteration", 0, 4, 1, 12, 2, 24, [10, 20], [15, 15], listed))
+
+
+def why(asked, listed, *parts):
+    return b"\43" + state_bytes(*parts) + struct.pack(">QQ", asked, listed)
+
+
+def whys():
+    """Case S after each iteration, asked for every pair of boxes; and asked for what is no box."""
+    for parts in ((4, 1, 8, 1, 75, [10, 20, 10], [8, 8, 8], S_KEPT), (4, 1, 8, 2, 138, [10] * 3, [8] * 3, S_KEPT)):
+        reasons = {(1, 4): "1 0 1", (2, 4): "1 1 2", (3, 4): "1 0 1"}
+        for asked in (1, 2, 3):
+            for listed in (1, 2, 3, 4):
+                due = state_line("why", f"0 {reasons.get((asked, listed), '0 0 0')}", *parts)
+                yield why(asked, listed, *parts), due
+        for asked, listed in ((4, 1), (4, 4), (0, 1), (1, 0), (5, 1), (1, 5), (257, 1), (1, 257), (TANK + 1, 4),
+                              (1, TANK + 4), (TOP, 4), (1, TOP), (0, 0)):
+            yield why(asked, listed, *parts), state_line("why", "15 0 0 0", *parts)
+    # Three are more than t + 1. Before the first iteration nobody is listed. A single box.
+    for done, refusal in ((0, 0), (2, 0), (3, 14), (255, 14)):
+        parts = 4, 1, 8, done, 0, [10, 20, 30], []
+        yield why(1, 4, *parts), state_line("why", f"{refusal} 0 0 0", *parts)
+    for done, refusal in ((0, 0), (1, 0), (2, 14)):
+        yield why(1, 1, 1, 0, 0, done, 0, [5], []), state_line("why", f"{refusal} 0 0 0", 1, 0, 0, done, 0, [5], [])
+    # In this order: 4, 5, 6, 9, 14, 15.
+    for parts, refusal in (((14, 9, 0xffff, 9, 9, [0], [8]), 4), ((4, 2, 24, 9, 9, [0], [8]), 5),
+                           ((4, 1, 24, 9, 9, [0], [8]), 6), ((4, 1, 8, 9, 9, [0], [8]), 9),
+                           ((4, 1, 8, 9, 9, [1, 1, 1], [8]), 14), ((4, 1, 8, 2, 9, [1, 1, 1], []), 15)):
+        yield why(0, 99, *parts), state_line("why", f"{refusal} 0 0 0", *parts)
+
+
+def kept_reasons():
+    """Case S after its first iteration, with another reason of box 1 for box 4, or with one where none belongs. t = 1
+    and one iteration is done. The second iteration, and why."""
+    lead, after = (4, 1, 8, 1, 75, [10, 20, 10], [8, 8, 8]), (4, 1, 8, 2, 138, [10] * 3, [8] * 3)
+    good = (1, 0, 0), (1, 0, 1), (1, 1, 2)
+    bad = ((0, 0, 0), (0, 0, 1), (0, 1, 2), (2, 0, 1), (255, 0, 1), (1, 2, 3), (1, 2, 2), (1, 255, 0), (1, 0, 2),
+           (1, 0, 3), (1, 1, 0), (1, 1, 1), (1, 1, 3), (1, 1, 4), (1, 0, 255))
+    for reason, passes in (*((one, True) for one in good), *((one, False) for one in bad)):
+        reasons = S_KEPT | kept({(1, 4): reason})
+        said = " ".join(map(str, (0, *reason) if passes else (14, 0, 0, 0)))
+        yield why(1, 4, *lead, reasons), state_line("why", said, *lead, reasons)
+        due = state_line("iteration", 0, *after, reasons) if passes else state_line("iteration", 14, *lead, reasons)
+        yield iteration(*lead, Table(4), reasons), due
+    for place in ((1, 1), (3, 3), (4, 1), (4, 4), (1, 5), (1, 13), (5, 1), (13, 1), (13, 13)):
+        for reason in ((1, 0, 0), (0, 0, 1), (0, 1, 0), (0, 1, 2), (1, 1, 2)):
+            reasons = S_KEPT | kept({place: reason})
+            yield why(2, 4, *lead, reasons), state_line("why", "14 0 0 0", *lead, reasons)
+            yield iteration(*lead, Table(4), reasons), state_line("iteration", 14, *lead, reasons)
+    # With t = 0 the only reason is a support of 0, and an iteration never has one: it is the first and the last.
+    for done, reason, refusal in ((1, (1, 0, 0), 0), (1, (1, 0, 1), 14), (1, (1, 1, 1), 14), (1, (1, 1, 0), 14),
+                                  (0, (1, 0, 0), 14), (0, (0, 0, 0), 14)):
+        parts, reasons = (2, 0, 2, done, 0, [5], [2]), kept({(1, 2): reason})
+        said = " ".join(map(str, (refusal, *(reason if refusal == 0 else (0, 0, 0)))))
+        yield why(1, 2, *parts, reasons), state_line("why", said, *parts, reasons)
+        yield iteration(*parts, Table(2), reasons), state_line("iteration", 12 if done else 14, *parts, reasons)
 
 
 def wide_states():
@@ -296,15 +396,97 @@ def files():
     yield from listing(one, "run 1 0 0\nat 1 1 5 0\nsent 0\n", 0)
     yield from listing(b"", "refused 1\n", 1)
     yield from listing(heading_bytes(3, 1, 8, []), "refused 5\n", 5)
-    for asked, due in ((data, (0, 4, 1, 8, 2, 138, [10, 10, 10], [8, 8, 8])), (one, (0, 1, 0, 0, 1, 0, [5], [])),
+    for asked, due in ((data, (0, 4, 1, 8, 2, 138, [10, 10, 10], [8, 8, 8], S_KEPT)),
+                       (one, (0, 1, 0, 0, 1, 0, [5], [])),
                        (data + b"\0", (8, 0, 0, 0, 0, 0, [], [])), (data[:-1], (8, 0, 0, 0, 0, 0, [], [])),
                        (data[:9 + 32], (8, 0, 0, 0, 0, 0, [], [])), (b"", (1, 0, 0, 0, 0, 0, [], []))):
         yield struct.pack(">BI", 19, len(asked)) + asked, state_line("outcome", *due)
-    yield bytes((20,)), "none" + " 0" * 31
+    yield bytes((20,)), "none" + " 0" * 31 + " 0 0 0" * 169
+
+
+def box_numbers():
+    """Where it is a number it is followed by its value, or by 256."""
+    for text, due in ((b"", "0 0"), (b"0", "1 0"), (b"4", "1 4"), (b"004", "1 4"), (b"255", "1 255"),
+                      (b"256", "1 256"), (b"257", "1 256"), (b"1000", "1 256"), (b"00000000000000000255", "1 255"),
+                      (b"000000000000000000255", "0 0"), (b"00000000000000000256", "1 256"),
+                      (b"18446744073709551615", "1 256"), (b"18446744073709551616", "1 256"),
+                      (b"18446744073709551620", "1 256"), (b"99999999999999999999", "1 256"),
+                      (b"100000000000000000000", "0 0"), (b"-1", "0 0"), (b"+1", "0 0"), (b" 1", "0 0"), (b"1 ", "0 0"),
+                      (b"1\n", "0 0"), (b"1\0", "0 0"), (b"/", "0 0"), (b":", "0 0"), (b"1/", "0 0"), (b"1:2", "0 0"),
+                      (b"\xb0", "0 0"), (b"1\xb1", "0 0"), (b"1.0", "0 0"), (b"x", "0 0"), (b"1" * 5000, "0 0")):
+        yield struct.pack(">BH", 36, len(text)) + text, f"number {due}"
+
+
+def answer(data, asked, listed, text, ends=0):
+    """The line in slices that are one too short, just long enough, and longer by two."""
+    size = len(text) + 1
+    codes, lent = [ord(sign) for sign in text + "\n"], [*range(1, size + 3)]
+    for length, due in ((size - 1, (10, 0, 0, *lent[:size - 1])), (size, (0, size, ends, *codes)),
+                        (size + 2, (0, size, ends, *codes, *lent[size:]))):
+        yield (struct.pack(">BQQHI", 37, asked, listed, length, len(data)) + data,
+               " ".join(map(str, ("answer", *due))))
+
+
+def silent_file(n, t, faulty, rows):
+    return heading_bytes(n, t, faulty, rows) + bytes((t + 1) * 8 * (n * n + 2 * n**3))
+
+
+def answers():
+    """Case S for every pair of boxes, the other cases that docs/SCOPE.md marks, and files and boxes that are bad."""
+    data, nobody = case_s_file(), "not listed"
+    reasons = {(1, 4): "listed in iteration 1 with confidence 0 and support 1",
+               (2, 4): "listed in iteration 1 with confidence 1 and support 2",
+               (3, 4): "listed in iteration 1 with confidence 0 and support 1"}
+    for listed in (1, 2, 3, 4):
+        for asked in (1, 2, 3):
+            yield from answer(data, asked, listed, reasons.get((asked, listed), nobody))
+        yield from answer(data, 4, listed, "refused 15", 15)
+    # A faulty box that says nothing has no support. Nobody lists anybody where all are sound, or where one is alone.
+    for rows in ([50, 50, 50, 0], [10, 20, 30, 0]):
+        silent = silent_file(4, 1, 8, rows)
+        yield from answer(silent, 1, 4, "listed in iteration 1 with confidence 0 and support 0")
+        yield from answer(silent, 3, 4, "listed in iteration 1 with confidence 0 and support 0")
+        yield from answer(silent, 1, 1, nobody)
+    yield from answer(silent_file(4, 1, 0, [7, 7, 9, 9]), 1, 4, nobody)
+    yield from answer(silent_file(1, 0, 0, [5]), 1, 1, nobody)
+    yield from answer(silent_file(1, 0, 0, [5]), 1, 2, "refused 15", 15)
+    # Box 4 is as good as sound in the first iteration. In the second it lies as in the first one of case S.
+    yield from answer(late_file(), 1, 4, "listed in iteration 2 with confidence 0 and support 1")
+    yield from answer(late_file(), 2, 4, "listed in iteration 2 with confidence 1 and support 2")
+    yield from answer(late_file(), 2, 3, nobody)
+    # The file's number comes before that of the boxes.
+    for bad, number in ((data[:8], 1), (b"C" + data[1:], 2), (data[:-1], 8), (data + b"\0", 8), (data[:41], 8),
+                        (data[:9] + bytes(8) + data[17:], 9)):
+        for asked, listed in ((1, 4), (4, 1), (0, TOP)):
+            yield from answer(bad, asked, listed, f"refused {number}", number)
+    for asked, listed in ((0, 1), (1, 0), (5, 1), (1, 5), (256, 1), (257, 1), (1, 260), (TANK + 1, 4), (1, TOP)):
+        yield from answer(data, asked, listed, "refused 15", 15)
+
+
+def late_file():
+    """Rows 10, 10, 10. In the first iteration box 4 says 10 of all leaders to all, so that all have confidence 2 in all
+    and hold 10. Then it speaks for itself alone, as in case S, where what is heard about it does not depend on the
+    other boxes' rows."""
+    first = Table(4)
+    for receiver in range(4):
+        first.first(3, receiver, 10)
+        for leader in range(4):
+            first.second(3, receiver, leader, 10)
+            first.third(3, receiver, leader, 10)
+    return heading_bytes(4, 1, 8, [10, 10, 10, 0]) + first.to_bytes() + case_s_table().to_bytes()
+
+
+def cases_of(*parts):
+    for part in parts:
+        for data, line_due in part():
+            yield Request(data, "written by hand", None, line_due)
 
 
 def all_cases():
-    for part in (votes_and_grades, supports, confidences, choices, sizes, iterations, two_boxes, at_the_limit,
-                 wide_states, constants, tests, steps, echoes, unusual_steps, lines, parts, files):
-        for data, line_due in part():
-            yield Request(data, "written by hand", None, line_due)
+    return cases_of(votes_and_grades, supports, confidences, choices, sizes, iterations, two_boxes, at_the_limit,
+                    joining, whys, kept_reasons, wide_states, constants, tests, steps, echoes, unusual_steps, lines,
+                    parts, files)
+
+
+def text_cases():
+    return cases_of(box_numbers, answers)

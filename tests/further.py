@@ -9,6 +9,7 @@ from pathlib import Path
 from calls import PLACES, Call, Iteration, Request, packed, state_line, wrong_t
 from edges import end_of, silent_listing, silent_run
 from runfiles import DAMAGES, KINDS, OF_LENGTH, TOP, Table, bits, damage_choices, largest_t, some_rows, table_rows
+from staterules import State, last_state
 from steprules import Cast, confidence_at, size_refusal
 
 EXAMPLES = Path(__file__).resolve().parent.parent / "examples"
@@ -189,6 +190,10 @@ class Steps(Iteration):
             self.rows = [rng.choice((0, row)) for row in self.rows]
         if rng.random() < 0.5:
             self.add_rubbish(rng)
+
+    def may_list(self):
+        """Steps 1 to 4 know nothing of iterations done, or of reasons."""
+        return True
 
     def add_rubbish(self, rng):
         """Rows and lists of boxes that do not count, stray bits in the lists and the faulty set, and rows in the table
@@ -464,7 +469,13 @@ class File:
         listed = int(lines[1].split(b" ")[4]) if sound else 0
         rows, lists = ([number if k in sound else 0 for k in range(run.n)] for number in (self.row, listed))
         sent = int(lines[-2].split(b" ")[1])
-        return state_line("outcome", 0, run.n, run.t, bits(run.faulty), run.t + 1, sent, rows, lists)
+        return state_line("outcome", 0, run.n, run.t, bits(run.faulty), run.t + 1, sent, rows, lists,
+                          silent_reasons(run, listed))
+
+
+def silent_reasons(run, listed):
+    """Whoever is listed in a silent run is listed in the first iteration, since nothing at all is heard about it."""
+    return {(i, k): (1, 0, 0) for i in run.sound() for k in range(run.n) if listed >> k & 1}
 
 
 def some_file(rng):
@@ -560,11 +571,13 @@ def large_files():
 
 
 def lively_files(rng):
-    """Files in which the faulty boxes do what they can: nothing is known beforehand but that they pass."""
+    """Files in which the faulty boxes do what they can."""
     for kind in KINDS:
-        data = kind(rng).to_bytes()
+        run = kind(rng)
+        data = run.to_bytes()
         yield Request(listing_bytes(data, MOST_LISTING), "listing of a lively file", 0)
-        yield Request(outcome_bytes(data), "outcome of a lively file", 0)
+        yield Request(outcome_bytes(data), "outcome of a lively file", 0,
+                      reply("outcome", 0, *last_state(run).numbers()))
 
 
 class NoRun(Call):
@@ -579,7 +592,7 @@ class NoRun(Call):
         return bytes((20,))
 
     def known(self):
-        return reply("none", *[0] * 31)
+        return reply("none", *State(0, 0, 0).numbers())
 
 
 def all_edges(rng):

@@ -27,10 +27,11 @@ class Program:
         self.command = shlex.split(command)
         self.errors = subprocess.PIPE if errors else None
 
-    def __call__(self, data):
+    def __call__(self, data, *words):
+        """The words stand behind the command."""
         try:
-            done = subprocess.run(self.command, input=data, stdout=subprocess.PIPE, stderr=self.errors, cwd=ROOT,
-                                  timeout=120)
+            done = subprocess.run([*self.command, *words], input=data, stdout=subprocess.PIPE, stderr=self.errors,
+                                  cwd=ROOT, timeout=120)
         except subprocess.TimeoutExpired:
             return Answer(b"(no end after 120 seconds)", -1)
         except OSError as error:

@@ -1,5 +1,5 @@
-"""Two small streams, of kinds 1 to 20 and 34 and of kinds 21 to 33: for each kind a request that passes, and one that
-is refused.
+"""Two small streams, of kinds 1 to 20, 34 and 35 and of kinds 21 to 33, 36 and 37: for each kind a request that
+passes, and one that is refused.
 
 A call that refuses nothing gets one request with each of its answers. No run and no text have one request alone.
 """
@@ -10,13 +10,17 @@ from calls import Request, packed, state_bytes
 from edges import silent_run
 from further import steps_bytes
 from makers import CASE_S, maker_bytes
-from runfiles import TOP, Table, heading_bytes
+from runfiles import TOP, Table, case_s_table, heading_bytes
 from textrules import LENT_LINE, Maker
 
 
 def single_box():
     """One box with row 5: the smallest run file there is."""
     return silent_run(1, 0, (), 5).to_bytes()
+
+
+# Case S after its first iteration.
+AFTER_S = 4, 1, 8, 1, 75, [10, 20, 10], [8, 8, 8], {(0, 3): (1, 0, 1), (1, 3): (1, 1, 2), (2, 3): (1, 0, 1)}
 
 
 def first_seven():
@@ -31,6 +35,8 @@ def first_seven():
     table = struct.pack(">H", 63) + packed([9] * 63)
     yield b"\5" + state_bytes(3, 0, 4, 0, 0, [5, 6], []) + table, 0
     yield b"\5" + state_bytes(3, 0, 4, 0, 0, [5, 6, 2**32], []) + table, 14
+    yield b"\5" + state_bytes(*AFTER_S) + struct.pack(">H", 144) + bytes(8 * 144), 0
+    yield b"\5" + state_bytes(*AFTER_S[:-1]) + struct.pack(">H", 144) + bytes(8 * 144), 14
     heading = heading_bytes(3, 255, 4, [5, 6, 0])
     yield bytes((6, len(heading), 4)) + heading, 0
     yield bytes((6, len(heading), 2)) + heading, 10
@@ -80,6 +86,13 @@ def confidences():
     """t = 2: the supports t, 2t and 2t + 1, which have confidence 0, 1 and 2."""
     for support in (2, 4, 5):
         yield bytes((34, support, 2)), None
+
+
+def reasons():
+    """Why box 2 lists box 4 and not box 1; a state without its reasons; and boxes that cannot be asked about."""
+    for asked, listed, refusal in ((2, 4, 0), (2, 1, 0), (4, 1, 15), (2, 2**32 + 1, 15)):
+        yield b"\43" + state_bytes(*AFTER_S) + struct.pack(">QQ", asked, listed), refusal
+    yield b"\43" + state_bytes(*AFTER_S[:-1]) + struct.pack(">QQ", 2, 4), 14
 
 
 def writers_and_lines():
@@ -142,6 +155,18 @@ def rows_and_ends():
         yield b"\41" + maker_bytes(maker) + struct.pack(">H", LENT_LINE) + first.ljust(LENT_LINE, b"."), None
 
 
+def numbers_and_answers():
+    """A number, one above 255 and none; and of case S a listing, none, a refused box, a short slice and a cut file."""
+    for text in (b"00000000000000000013", b"256", b"+4"):
+        yield struct.pack(">BH", 36, len(text)) + text, None
+    run = silent_run(4, 1, {3}, 0)
+    run.rows, run.tables[0] = [10, 20, 30, 0], case_s_table()
+    data = run.to_bytes()
+    for asked, listed, lent, file, refusal in ((2, 4, 64, data, 0), (2, 1, 12, data, 0), (4, 1, 11, data, 0),
+                                               (2, 4, 53, data, 10), (4, 1, 10, data[:-1], 0)):
+        yield struct.pack(">BQQHI", 37, asked, listed, lent, len(file)) + file, refusal
+
+
 def requests_of(*parts):
     for part in parts:
         for data, refusal in part():
@@ -149,8 +174,8 @@ def requests_of(*parts):
 
 
 def all_requests():
-    return requests_of(first_seven, constants_and_tests, steps_and_text, files, confidences)
+    return requests_of(first_seven, constants_and_tests, steps_and_text, files, confidences, reasons)
 
 
 def text_requests():
-    return requests_of(writers_and_lines, makers_of_small, told_and_shown, rows_and_ends)
+    return requests_of(writers_and_lines, makers_of_small, told_and_shown, rows_and_ends, numbers_and_answers)

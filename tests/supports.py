@@ -13,6 +13,9 @@ from further import steps_bytes, steps_line
 from runfiles import Liars, Minds, Run, add_iteration, bits, high_rows, largest_t, some_rows
 from steprules import PLACES, Cast
 
+# Under which the comparison counts what arises.
+GROUP = "supports in steps 1 to 4"
+
 # What the faulty boxes say about sound leaders in step 3.
 VOICES = "the same", "another", "nothing", "each its own"
 
@@ -66,7 +69,7 @@ class Asked:
     def request(self, about):
         data = steps_bytes(self.n, self.t, bits(self.boxes), self.rows, self.lists, self.table.rows)
         due = steps_line(self.cast.messages, *self.cast.parts())
-        return Request(data, about, 0, due, shows=set(self.shows()))
+        return Request(data, about, 0, due, shows={(GROUP, name) for name in self.shows()})
 
     def shows(self):
         """Two faulty boxes are needed for a support between the least and the most, and t of 2 or more for thresholds

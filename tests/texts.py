@@ -7,6 +7,7 @@ import struct
 from functools import partialmethod
 
 import textrules
+import whys
 from calls import PLACES, Call, Request, Start, packed, pick_n_t, wrong_n, wrong_t
 from edges import silent_run
 from further import EXAMPLES, MOST_FILE, MOST_LENT, lent_bytes, lent_rows, reply, some_number
@@ -599,6 +600,8 @@ def counted(words, data):
         return f"0, meant {words[2]}"
     if name == "shown" and number == "0":
         return "0, empty" if words[2] == "0" else "0, not empty"
+    if name in ("number", "answer"):
+        return whys.counted(words)
     if name == "begins":
         return "wrong n" if number == "0" else f"for n = {data[1]}"
     return number
