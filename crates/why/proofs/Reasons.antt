@@ -1,5 +1,5 @@
--- The line of a reason: each part is put from the newline of the one before on, and the parts make one line, which has
--- at most 60 bytes. Assumes nothing.
+-- The parts of the line of a reason: how long a part can be as a line of its own, and that a part which is put from the
+-- newline of the one before on makes one line with it. Assumes nothing.
 use mathlib.Core.Path.{_≡_, refl, sym, ap, ap₂, subst, _∙_}
 use mathlib.Core.List.{List, [], _∷_, _++_, append-assoc}
 use Prim.Native.Nat.{ℕ, _+_, _-_, _^_, _≤_, _<_}
@@ -10,7 +10,7 @@ use Rattle.lines.specs.Line.{decimal, field, fields, lineOf, placed}
 use Rattle.lines.proofs.Decimal.{decimal-most}
 use Rattle.lines.proofs.Placed.{placed-length, placed-append}
 use Rattle.listing.specs.Inside.{Put}
-use Rattle.why.specs.Answer.{newline, listed-words, confidence-words, support-words, reasonLine}
+use Rattle.why.specs.Answer.{newline}
 
 -- a text put where a shorter one stands hides it
 placed-again : (xs : List ℕ) (at : ℕ) (s t : List ℕ) → length s ≤ length t → at + length t ≤ length xs →
@@ -37,10 +37,7 @@ part-line : (words : List ℕ) (number : ℕ) → lineOf words (number ∷ []) �
 unfolding lineOf fields
 part-line words number = refl
 
--- a number of 8 bits has at most 3 digits, so a part has at most 5 bytes behind its words
-digits8 : (n : ℕ) → n < 2 ^ 8 → length (decimal n) ≤ 3
-digits8 n h = decimal-most 2 n (omega arith)
-
+-- a number of 8 bits has at most 3 digits, so behind the words of a part are at most 5 bytes
 part-long : (words : List ℕ) (number : ℕ) →
     length (lineOf words (number ∷ [])) ≡ length words + 2 + length (decimal number)
 unfolding field
@@ -51,7 +48,7 @@ part-long words number =
 
 pub part-most : (words : List ℕ) (number : ℕ) → number < 2 ^ 8 →
     length (lineOf words (number ∷ [])) ≤ length words + 5
-part-most words number h = omega (arith, part-long words number, digits8 number h)
+part-most words number h = omega (arith, part-long words number, decimal-most 2 number (omega arith))
 
 pub part-some : (words : List ℕ) (number : ℕ) → 1 ≤ length (lineOf words (number ∷ []))
 part-some words number = omega (arith, part-long words number)
@@ -82,25 +79,7 @@ put-over s t {xs} {ys} {zs} {at} {mid} {end} p q fits =
           ∙ ap (placed xs at) (sym (append-assoc s t newline));
     }
 
--- and so with a part
+-- a part that was put, as its words, its number and a newline
 pub part-put : (words : List ℕ) (number : ℕ) {xs ys : List ℕ} {at end : ℕ} →
     Put xs ys at end (lineOf words (number ∷ [])) → Put xs ys at end (words ++ field number ++ newline)
 part-put words number {xs} {ys} {at} {end} = subst (Put xs ys at end) (part-line words number)
-
--- the whole line has at most 60 bytes
-pub reason-most : (iteration confidence support : ℕ) → iteration < 2 ^ 8 → confidence < 2 ^ 8 → support < 2 ^ 8 →
-    length (reasonLine iteration confidence support) ≤ 60
-unfolding reasonLine field
-reason-most iteration confidence support hi hc hs =
-    let listed = listed-words ++ field iteration in
-    let firm = confidence-words ++ field confidence in
-    let held = support-words ++ field support in
-    omega (
-      arith,
-      length-append (listed ++ firm ++ held) newline,
-      length-append (listed ++ firm) held,
-      length-append listed firm,
-      digits8 iteration hi,
-      digits8 confidence hc,
-      digits8 support hs,
-    )

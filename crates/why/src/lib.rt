@@ -83,7 +83,7 @@ fn put_part(text: &mut [u8], at: usize, words: &[u8], number: u8) -> usize
 // newline of the one before.
 fn put_reason(iteration: u8, confidence: u8, support: u8, text: &mut [u8]) -> usize
     requires { ⌜ 60 ≤ length (now text) ⌝ }
-    ensures { λ r. ⌜ r ≡ length (reasonLine iteration confidence support) ⌝ }
+    ensures { λ r. ⌜ (r ≡ length (reasonLine iteration confidence support)) × (r ≤ 60) ⌝ }
     ensures { λ r. ⌜ now (text .exit) ≡ placed (now (text .entry)) 0 (reasonLine iteration confidence support) ⌝ }
 {
     let first = put_part(text, 0, b"listed in iteration", iteration);
