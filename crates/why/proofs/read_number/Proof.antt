@@ -3,6 +3,7 @@
 -- the value so far, both capped. A byte that is no digit decides. What is left of the text falls. Assumes nothing.
 use mathlib.Core.Path.{_≡_, sym, _∙_}
 use Prim.Native.Nat.{_-_}
+use native.Mathlib.Omega.{arith}
 use lib.ListN.{length}
 use borrow.Author.Tests.{not-true, not-false}
 use Rattle.why.proofs.Numbers.{
@@ -35,7 +36,7 @@ returns : tie.Need-returns Inv-loop μ-loop
 returns c = number-empty (c .before .before .args .text .now) (c .if1 .taken)
 
 returns-2 : tie.Need-returns-2 Inv-loop μ-loop
-returns-2 c = number-long (c .before .before .before .args .text .now) (c .if2 .taken)
+returns-2 c = number-long (c .before .before .before .args .text .now) (omega (arith, c .if2 .taken))
 
 loop-holds : tie.Need-loop-holds Inv-loop μ-loop
 loop-holds c = read-begins (c .before .before .before .args .text .now)
