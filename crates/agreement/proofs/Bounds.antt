@@ -33,7 +33,17 @@ use Rattle.gradecast.specs.Steps.{
 }
 use Rattle.gradecast.specs.Fair.{faultyBoxes}
 use Rattle.gradecast.proofs.Grades.{positive}
-use Rattle.run.specs.Iteration.{gradedRows, confidences, newRow, newList, entry, nextRun}
+use Rattle.run.specs.Iteration.{
+  gradedRows,
+  confidences,
+  newRow,
+  newList,
+  entry,
+  reasonFrom,
+  reasonIn,
+  reasonAt,
+  nextRun,
+}
 use Rattle.run.specs.State.{
   startRow,
   startRefusal,
@@ -42,6 +52,17 @@ use Rattle.run.specs.State.{
   badPlace,
   badEntry,
   tooManySent,
+  noReasons,
+  listedBy,
+  kept,
+  unsaid,
+  unlisted,
+  notYetDone,
+  tooSure,
+  unfit,
+  badReason,
+  badReasons,
+  badState,
   iterateRefusal,
   iterateReply,
   after,
@@ -72,7 +93,8 @@ unfolding sum count any build find member setOf places support before best most 
     tableRows carried voteOf supportOf confidenceAt confidenceOf gradedRow counted chosenRow sound place1
     placeFrom place2 place3 sends hears heard1 heard2 column2 voted heard3 column3 confidence gradeRow sentTo
     messages gradedRows confidences newRow newList entry nextRun soundZero startRow startRefusal startRun
-    startReply badPlace badEntry tooManySent iterateRefusal iterateReply after
+    startReply badPlace badEntry tooManySent noReasons reasonFrom reasonIn reasonAt listedBy kept unsaid unlisted
+    notYetDone tooSure unfit badReason badReasons badState iterateRefusal iterateReply after
 bounds-needed =
     record {
       too-few-iterations =

@@ -8,7 +8,7 @@ use Rattle.counting.specs.Sets.{member}
 use Rattle.gradecast.specs.Steps.{place1, place2, place3}
 use Rattle.run.specs.declared.Run.{Run}
 use Rattle.run.specs.declared.Next.{Next}
-use Rattle.run.specs.State.{iterateReply}
+use Rattle.run.specs.State.{noReasons, iterateReply}
 use Rattle.runfile.specs.File.{tableRow}
 use Rattle.lines.specs.Line.{placed}
 use Rattle.listing.specs.declared.Told.{Told}
@@ -74,3 +74,17 @@ pub record Started (s : Run) (bytes : List ℕ) : Type 0 where
 pub record ToldBy (bytes before after : List ℕ) (at : ℕ) (lines : List ℕ) (r : Told) : Type 0 where
   pub outcome : r .last ≡ outcomeOf bytes
   pub text : Put before after at (r .size) lines
+
+-- a state with these parts: the lines of a state's boxes go by nothing else
+unfoldable pub withParts : ℕ → ℕ → List ℕ → List ℕ → Run
+withParts faulty done rows lists =
+    record {
+      n = 0;
+      t = 0;
+      faulty = faulty;
+      done = done;
+      sent = 0;
+      rows = rows;
+      lists = lists;
+      reasons = noReasons;
+    }

@@ -7,7 +7,9 @@ ghost use mathlib.Core.Bool.{true, cond};
 ghost use Prim.Native.Nat.{_+_, _≤_, _<_};
 ghost use lib.Dec.{ltb};
 ghost use lib.ListN.{length};
+ghost use mathlib.Core.List.{[]};
 ghost use Rattle.counting.specs.Sets.{member};
+ghost use Rattle.sizes.specs.Sizes.{sound};
 ghost use Rattle.listing.specs.File.{tableBegins, tableBytes, beginsReply};
 ghost use Rattle.listing.specs.Inside.{
   Taken,
@@ -19,11 +21,11 @@ ghost use Rattle.listing.specs.Inside.{
   Put,
   Started,
   ToldBy,
+  withParts,
 };
 ghost use Rattle.listing.specs.Listing.{
   runLine,
   atLine,
-  boxLine,
   boxLines,
   lastLine,
   endedBy,
@@ -152,26 +154,29 @@ fn put_at(done: u8, i: usize, row: u64, list: u16, text: &mut [u8], at: usize) -
 }
 
 // Puts the line `at` of box i, nothing for a faulty box.
-fn put_box(s: Run, i: usize, text: &mut [u8], at: usize) -> usize
+fn put_box(faulty: u16, done: u8, i: usize, row: u64, list: u16, text: &mut [u8], at: usize) -> usize
     requires { ⌜ (i < 13) × (at + 37 ≤ length (now text)) ⌝ }
-    ensures { λ r. ⌜ Put (now (text .entry)) (now (text .exit)) at r (boxLine s i) × (r ≤ at + 37) ⌝ }
+    ensures { λ r. ⌜ Put (now (text .entry)) (now (text .exit)) at r (cond (sound faulty i) (atLine done i row list) []) ×
+        (r ≤ at + 37) ⌝ }
 {
-    if sizes::is_member(s.faulty, i) {
+    if sizes::is_member(faulty, i) {
         return at;
     }
-    put_at(s.done, i, s.rows[i], s.lists[i], text, at)
+    put_at(done, i, row, list, text, at)
 }
 
-// Puts the lines `at` of all sound boxes, in order.
-fn put_boxes(s: Run, text: &mut [u8], at: usize) -> usize
-    requires { ⌜ (s .n ≤ 13) × (at + 481 ≤ length (now text)) ⌝ }
-    ensures { λ r. ⌜ Put (now (text .entry)) (now (text .exit)) at r (boxLines s (s .n)) × (r ≤ at + 481) ⌝ }
+// Puts the lines `at` of all sound boxes, in order. It takes the parts of the state that it needs: a whole state would
+// be copied.
+fn put_boxes(n: u8, faulty: u16, done: u8, rows: [u64; 13], lists: [u16; 13], text: &mut [u8], at: usize) -> usize
+    requires { ⌜ (n ≤ 13) × (at + 481 ≤ length (now text)) ⌝ }
+    ensures { λ r. ⌜ Put (now (text .entry)) (now (text .exit)) at r (boxLines (withParts faulty done rows lists) n) ×
+        (r ≤ at + 481) ⌝ }
 {
-    let n = s.n as usize;
+    let boxes = n as usize;
     let mut end = at;
     let mut i: usize = 0;
-    while i < n {
-        end = put_box(s, i, text, end);
+    while i < boxes {
+        end = put_box(faulty, done, i, rows[i], lists[i], text, end);
         i += 1;
     }
     end
@@ -218,7 +223,7 @@ fn tell_iterations(first: Run, bytes: &[u8], table: &mut [u64], text: &mut [u8],
             };
         }
         s = next.run;
-        size = put_boxes(s, text, size);
+        size = put_boxes(s.n, s.faulty, s.done, s.rows, s.lists, text, size);
     }
     Told {
         last: ended(end_refusal(s, bytes), s),

@@ -1,70 +1,31 @@
--- `listing::put_box` meets its contract: a faulty box has no line, and a sound one has the line of its row and its
--- list. Assumes nothing.
-use mathlib.Core.Path.{_≡_, sym, _∙_}
-use mathlib.Core.Bool.{true, false}
-use Rattle.counting.proofs.Bools.{not-of-true, not-of-false}
-use Rattle.sizes.specs.Sizes.{sound}
-use Rattle.listing.specs.Listing.{boxLine}
-use Rattle.listing.proofs.Text.{put-nothing}
 use borrow.Author.Needs.{needs}
 use Rattle.listing.proofs.put_box.Statement.{statement}
 use Rattle.listing.proofs.put_box.Tie as tie
+use Rattle.listing.proofs.put_box.Reads as reads
+use Rattle.listing.proofs.put_box.Lts as lts
+use Rattle.listing.proofs.put_at.Reads as put-at-reads
+use Rattle.sizes.proofs.is_member.Reads as is-member-reads
 
+-- src/lib.rt:162:8
 is-member-requires : tie.Need-is-member-requires
 is-member-requires c κs = search needs
 
--- what the test says of box i
-is-faulty : (c : tie.Then1) →
-    let a = c .before .before .before .args in
-    sound (a .t1 .faulty) (a .i) ≡ false
-unfolding sound
-is-faulty c = not-of-true (sym (c .before .is-member .ensures) ∙ c .if1 .taken)
-
-is-sound : (c : tie.Else1) →
-    let a = c .before .before .before .args in
-    sound (a .t1 .faulty) (a .i) ≡ true
-unfolding sound
-is-sound c = not-of-false (sym (c .before .is-member .ensures) ∙ c .if1 .left)
-
+-- src/lib.rt:163:9
 returns : tie.Need-returns
-unfolding boxLine
-returns c = (rw (is-faulty c) (put-nothing _ _), search needs)
+returns c = search needs
 
-mul-put-at : tie.Need-mul-put-at
-mul-put-at c = search needs
-
-element-copy-out-put-at : tie.Need-element-copy-out-put-at
-element-copy-out-put-at c = search needs
-
-mul-put-at-2 : tie.Need-mul-put-at-2
-mul-put-at-2 c = search needs
-
-element-copy-out-put-at-2 : tie.Need-element-copy-out-put-at-2
-element-copy-out-put-at-2 c = search needs
-
+-- src/lib.rt:165:5
 put-at-requires : tie.Need-put-at-requires
 put-at-requires c κs = search needs
 
+-- src/lib.rt:157:1
 same-length : tie.Need-same-length
 same-length c = search needs
 
+-- src/lib.rt:157:1
 returns-2 : tie.Need-returns-2
-unfolding boxLine
-returns-2 c =
-    let test = c .before .before .before .before .before .before in
-    let put = c .before .before .put-at .ensures in
-    (rw (is-sound test) (put .0), put .1)
+returns-2 c = search needs
 
 pub put-box-spec : {M : Type 1} → statement M
 put-box-spec =
-    tie.close
-    (tie.spec
-    is-member-requires
-    returns
-    mul-put-at
-    element-copy-out-put-at
-    mul-put-at-2
-    element-copy-out-put-at-2
-    put-at-requires
-    same-length
-    returns-2)
+    tie.close (tie.spec is-member-requires returns put-at-requires same-length returns-2)
