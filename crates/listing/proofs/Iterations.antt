@@ -33,10 +33,11 @@ use Rattle.listing.specs.File.{
   due,
   goesOn,
 }
-use Rattle.listing.specs.Inside.{Underway, Advanced, Started}
+use Rattle.listing.specs.Inside.{Underway, Advanced, Started, withParts}
 use Rattle.listing.specs.Listing.{
   endedBy,
   passed,
+  boxLine,
   boxLines,
   iterationLines,
   doneOf,
@@ -244,6 +245,12 @@ module _ (bytes : List ℕ) (s : Run) (g : Going bytes s) where
         ∙ cond-false (refusedAt bytes (doneOf bytes)) (cond (goesOn bytes) 8 0) none
         ∙ ap₂ (λ (n k : ℕ). cond (ltb (tableBegins n k) (length bytes)) 8 0) (sym (g .same-n)) (sym all-due) in
         ap₂ endedBy (sym number) (g .is ∙ ap (stateAfter bytes) (sym finished-done))
+
+-- the lines of a state's boxes go by these parts alone
+pub lines-by : (s : Run) (k : ℕ) → boxLines (withParts (s .faulty) (s .done) (s .rows) (s .lists)) k ≡ boxLines s k
+unfolding boxLines boxLine withParts
+lines-by s zero = refl
+lines-by s (suc k) = ap (λ (lines : List ℕ). lines ++ boxLine s k) (lines-by s k)
 
 -- the lines of one more iteration
 pub lines-turn : (bytes : List ℕ) (s r : Run) → r .done ≡ suc (s .done) → r ≡ stateAfter bytes (suc (s .done)) →

@@ -154,7 +154,15 @@ fn put_at(done: u8, i: usize, row: u64, list: u16, text: &mut [u8], at: usize) -
 }
 
 // Puts the line `at` of box i, nothing for a faulty box.
-fn put_box(faulty: u16, done: u8, i: usize, row: u64, list: u16, text: &mut [u8], at: usize) -> usize
+fn put_box(
+    faulty: u16,
+    done: u8,
+    i: usize,
+    row: u64,
+    list: u16,
+    text: &mut [u8],
+    at: usize,
+) -> usize
     requires { ⌜ (i < 13) × (at + 37 ≤ length (now text)) ⌝ }
     ensures { λ r. ⌜ Put (now (text .entry)) (now (text .exit)) at r (cond (sound faulty i) (atLine done i row list) []) ×
         (r ≤ at + 37) ⌝ }
@@ -167,7 +175,15 @@ fn put_box(faulty: u16, done: u8, i: usize, row: u64, list: u16, text: &mut [u8]
 
 // Puts the lines `at` of all sound boxes, in order. It takes the parts of the state that it needs: a whole state would
 // be copied.
-fn put_boxes(n: u8, faulty: u16, done: u8, rows: [u64; 13], lists: [u16; 13], text: &mut [u8], at: usize) -> usize
+fn put_boxes(
+    n: u8,
+    faulty: u16,
+    done: u8,
+    rows: [u64; 13],
+    lists: [u16; 13],
+    text: &mut [u8],
+    at: usize,
+) -> usize
     requires { ⌜ (n ≤ 13) × (at + 481 ≤ length (now text)) ⌝ }
     ensures { λ r. ⌜ Put (now (text .entry)) (now (text .exit)) at r (boxLines (withParts faulty done rows lists) n) ×
         (r ≤ at + 481) ⌝ }
@@ -223,7 +239,9 @@ fn tell_iterations(first: Run, bytes: &[u8], table: &mut [u64], text: &mut [u8],
             };
         }
         s = next.run;
-        size = put_boxes(s.n, s.faulty, s.done, s.rows, s.lists, text, size);
+        let rows = s.rows;
+        let lists = s.lists;
+        size = put_boxes(s.n, s.faulty, s.done, rows, lists, text, size);
     }
     Told {
         last: ended(end_refusal(s, bytes), s),

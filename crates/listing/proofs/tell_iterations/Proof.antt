@@ -25,6 +25,7 @@ use Rattle.listing.proofs.Iterations.{
   stopped-outcome,
   finished-done,
   finished-outcome,
+  lines-by,
   lines-turn,
 }
 use borrow.Author.Needs.{needs}
@@ -111,9 +112,13 @@ returns c =
       omega (arith, t .loop .inv .4, due-of a, going-few _ _ g),
     )
 
+-- where the next state goes on, from where the text is lent
+abbrev lent-of : tie.After-put-boxes-arg Inv-loop μ-loop → tie.Else2 Inv-loop μ-loop
+lent-of c = c .before .before .before .before
+
 put-boxes-requires : tie.Need-put-boxes-requires Inv-loop μ-loop
 put-boxes-requires c κs =
-    let e = c .before .before in
+    let e = lent-of c in
     let t = turn-of (advance-of e) in (
       going-high _ _ (goes e),
       omega (
@@ -129,12 +134,12 @@ put-boxes-requires c κs =
 
 loop-less : tie.Need-loop-less Inv-loop μ-loop
 loop-less c =
-    let e = c .before .before .before .before .before in
+    let e = lent-of (c .before .before .before) in
     omega (arith, kept e, due-of (advance-of e))
 
 loop-again : tie.Need-loop-again Inv-loop μ-loop
 loop-again c =
-    let e = c .before .before .before .before .before in
+    let e = lent-of (c .before .before .before) in
     let a = advance-of e in
     let t = turn-of a in
     let g = t .loop .inv .0 in
@@ -142,7 +147,9 @@ loop-again c =
     let b = start-of t .args in
     let room : c .before .before .put-boxes .result ≤ length (b .text .now) =
     omega (arith, t .loop .inv .4, put .1, due-of a, going-few _ _ g, start-of t .pre .2) in
-    let text = put-then (t .loop .inv .3) (put .0) room in
+    let run = a .advance .result .run in
+    let new = subst (Put _ _ _ _) (lines-by run (run .n)) (put .0) in
+    let text = put-then (t .loop .inv .3) new room in
     let lines =
     lines-turn (bytes-of t) (t .loop .s) (a .advance .result .run)
     (next-done _ _ g _ (a .advance .ensures) (e .if2 .left))
