@@ -2,3 +2,4 @@ pub mod Agreement
 pub mod Bounds
 pub mod Condemned
 pub mod Iteration
+pub mod Reasons

@@ -58,7 +58,8 @@ pub fill-rest : {n k : ℕ} (m : ℕ) (f : ℕ → ℕ) (xs : List ℕ) {out : L
 fill-rest {n} m f xs most whole rest filled l =
     front-all f xs m whole
     (front-whole f xs (at-end (filled .0) l) (filled .1)
-    ∙ front-more n (m - n) f xs (omega (arith, most, whole)) (λ k h. rest (n + k) (omega arith) (omega (arith, h, most)))
+    ∙ front-more n (m - n) f xs (omega (arith, most, whole))
+    (λ k h. rest (n + k) (omega arith) (omega (arith, h, most)))
     ∙ ap (λ (q : ℕ). front q f xs) (omega (arith, most)))
 
 -- a loop that searches: none of the first k passes the test

@@ -164,8 +164,8 @@ fn put_box(
     at: usize,
 ) -> usize
     requires { ⌜ (i < 13) × (at + 37 ≤ length (now text)) ⌝ }
-    ensures { λ r. ⌜ Put (now (text .entry)) (now (text .exit)) at r (cond (sound faulty i) (atLine done i row list) []) ×
-        (r ≤ at + 37) ⌝ }
+    ensures { λ r. ⌜ Put (now (text .entry)) (now (text .exit)) at r
+        (cond (sound faulty i) (atLine done i row list) []) × (r ≤ at + 37) ⌝ }
 {
     if sizes::is_member(faulty, i) {
         return at;

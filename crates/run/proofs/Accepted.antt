@@ -1,5 +1,5 @@
--- A start, an iteration and the call that says why are accepted exactly where each of their tests fails: the refusal is
--- the number of the first test that holds, and no number is 0. Assumes nothing.
+-- A start, an iteration and the call that says why are accepted exactly where each of their tests fails: the refusal
+-- is the number of the first test that holds, and no number is 0. Assumes nothing.
 use mathlib.Core.Path.{_≡_, refl}
 use mathlib.Core.Bool.{false, not, _||_}
 use mathlib.Core.List.{List}
@@ -101,8 +101,8 @@ pub number-is : {n number : ℕ} → 1 ≤ number → number ≤ n → noBox n n
 unfolding noBox
 number-is {n} {number} low high = or-none (le-ltb number 1 low) (le-ltb n number high)
 
--- a question that is not refused: the state is legal, no more than t + 1 iterations are done, and the two are boxes, of
--- which the one that is asked is sound
+-- a question that is not refused: the state is legal, no more than t + 1 iterations are done, and the two are boxes,
+-- of which the one that is asked is sound
 pub record Askable (s : Run) (asked listed : ℕ) : Type 0 where
   pub legal : Legal s
   pub done-few : s .done ≤ s .t + 1

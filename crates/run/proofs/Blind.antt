@@ -1,7 +1,8 @@
 -- What is never read. A start puts 0 in the places of faulty boxes and tests the rows of sound boxes alone, so slices
 -- that differ in faulty boxes' rows start alike. In a table, entries in a sound sender's place are not read: two
--- tables that differ only there give the same grades and messages, so the same rows, lists and reasons, and where they are
--- equally long the same refusal; and so a whole run of such tables, since n and the faulty set stay. Assumes nothing.
+-- tables that differ only there give the same grades and messages, so the same rows, lists and reasons, and where
+-- they are equally long the same refusal; and so a whole run of such tables, since n and the faulty set stay. Assumes
+-- nothing.
 use mathlib.Core.Path.{_≡_, refl, sym, ap, ap₂, _∙_, subst₂}
 use mathlib.Core.Bool.{Bool, true, false, cond, _&&_, _||_}
 use mathlib.Core.List.{List}

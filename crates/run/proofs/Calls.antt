@@ -16,11 +16,14 @@ use Rattle.gradecast.specs.Fair.{SoundBox}
 use Rattle.gradecast.specs.Lies.{SameLies}
 use Rattle.run.specs.declared.Run.{Run}
 use Rattle.run.specs.declared.Next.{Next}
+use Rattle.run.specs.declared.Why.{Why}
 use Rattle.run.specs.State.{startRefusal, startRun, startReply, zeros, iterateReply, after}
+use Rattle.run.specs.Why.{whyReply}
 use Rattle.run.proofs.Blind.{start-blind, after-blind}
 use Rattle.run.proofs.Course.{never-refused}
 use Rattle.run.proofs.start.Reads as StartReads
 use Rattle.run.proofs.Run.iterate.Reads as IterateReads
+use Rattle.run.proofs.Run.why.Reads as WhyReads
 
 -- r is a reply of `start` to n, t, the faulty set and these rows: a call whose reply meets the contract
 pub data StartCall : ℕ → ℕ → ℕ → List ℕ → Next → Type 1 where
@@ -31,12 +34,19 @@ pub data StartCall : ℕ → ℕ → ℕ → List ℕ → Next → Type 1 where
 pub data IterateCall : Run → List ℕ → Next → Type 1 where
   call : (κs : _) (a : _) (r : _) (x : _) → IterateReads.Post κs a r x → IterateCall (a .0) (a .1 .0 .now) r
 
+-- r is a reply of `why` to this state and these two box numbers
+pub data WhyCall : Run → ℕ → ℕ → Why → Type 1 where
+  call : (κs : _) (a : _) (r : _) (x : _) → WhyReads.Post κs a r x → WhyCall (a .0) (a .1 .0) (a .1 .1 .0) r
+
 pub start-call-is : {n t faulty : ℕ} {rows : List ℕ} {r : Next} → StartCall n t faulty rows r →
     r ≡ startReply n t faulty rows
 start-call-is (StartCall.call κs a r x p) = p
 
 pub iterate-call-is : {s : Run} {table : List ℕ} {r : Next} → IterateCall s table r → r ≡ iterateReply s table
 iterate-call-is (IterateCall.call κs a r x p) = p
+
+pub why-call-is : {s : Run} {asked listed : ℕ} {r : Why} → WhyCall s asked listed r → r ≡ whyReply s asked listed
+why-call-is (WhyCall.call κs a r x p) = p
 
 -- a start, and then so many iterations, each on the state before it and its own table
 pub record Calls (n t faulty : ℕ) (rows : List ℕ) (tables : ℕ → List ℕ) (last : ℕ) (reply : ℕ → Next) : Type 1 where
@@ -103,6 +113,10 @@ start-call n t faulty rows =
 iterate-call : (s : Run) (table : List ℕ) → IterateCall s table (iterateReply s table)
 iterate-call s table =
     IterateCall.call ([], tt) (s, (lent table, tt)) (iterateReply s table) (s, (lent table, tt)) refl
+
+why-call : (s : Run) (asked listed : ℕ) → WhyCall s asked listed (whyReply s asked listed)
+why-call s asked listed =
+    WhyCall.call tt (s, (asked, (listed, tt))) (whyReply s asked listed) (s, (asked, (listed, tt))) refl
 
 pub calls-exist : (n t faulty : ℕ) (rows : List ℕ) (tables : ℕ → List ℕ) (last : ℕ) →
     Calls n t faulty rows tables last (after (startReply n t faulty rows) tables)

@@ -32,7 +32,7 @@ use Rattle.counting.proofs.Count.{none-any, any-none}
 use Rattle.counting.proofs.Sets.{setOf-lt, member-above, member-empty}
 use Rattle.sizes.specs.Sizes.{stray, sound, Startable}
 use Rattle.sizes.proofs.Laws.{inside-high, lt-within}
-use Rattle.gradecast.specs.Steps.{confidence, messages, messageLimit}
+use Rattle.gradecast.specs.Steps.{messages, messageLimit}
 use Rattle.gradecast.specs.Fair.{SoundBox, SoundRowsNotZero}
 use Rattle.gradecast.proofs.Boxes.{is-box, box-is}
 use Rattle.gradecast.proofs.Messages.{messages-bound}
@@ -41,7 +41,6 @@ use Rattle.run.specs.declared.Reason.{Reason}
 use Rattle.run.specs.Iteration.{
   confidences,
   newList,
-  entry,
   noReason,
   reasonAt,
   joined,

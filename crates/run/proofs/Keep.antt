@@ -1,5 +1,5 @@
--- What is kept of those that join, place by place: one place is looked at in a turn, and the places of which nobody joins
--- hold what they held. Assumes nothing.
+-- What is kept of those that join, place by place: one place is looked at in a turn, and the places of which nobody
+-- joins hold what they held. Assumes nothing.
 use mathlib.Core.Path.{_≡_, refl, sym, ap, _∙_}
 use mathlib.Core.Bool.{Bool, true, false, cond, not, _&&_}
 use mathlib.Core.List.{List}
@@ -60,7 +60,8 @@ module _ (j : Joining) (found : ℕ → ℕ → ℕ) where
       λ first whole b.
           let so = h .1 first whole b in
           let inside : 13 * i + k < length first = omega (arith, li, lk, whole) in
-          let stood = ap (λ (xs : List ℕ). getD xs (13 * i + k) 0) so ∙ front-next (13 * i + k) (at first) first inside in
+          let stood =
+          ap (λ (xs : List ℕ). getD xs (13 * i + k) 0) so ∙ front-next (13 * i + k) (at first) first inside in
           front-turn (13 * i + k) (at first) first after inside so
           (e ∙ ap (λ (old : ℕ). cond (joinsIn j i k) (found i k) old) stood ∙ sym (at-place first i k lk))
           ∙ ap (λ (q : ℕ). front q (at first) first) (omega arith),

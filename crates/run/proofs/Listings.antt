@@ -1,13 +1,12 @@
--- Reasons. Place 13 i + k is that of box i for box k, both ways. And what refusal 14 says of a reason, both ways: a box
--- that is listed needs a whole one, and of any other nothing is kept. Assumes nothing.
-use mathlib.Core.Path.{_≡_, refl, sym, ap, ap₂, _∙_}
+-- Reasons. Place 13 i + k is that of box i for box k, both ways. And what refusal 14 says of a reason, both ways: a
+-- box that is listed needs a whole one, and of any other nothing is kept. Assumes nothing.
+use mathlib.Core.Path.{_≡_, refl, ap, ap₂, _∙_}
 use mathlib.Core.Bool.{Bool, true, false, not, _||_}
-use mathlib.Core.List.{List}
 use Prim.Native.Nat.{ℕ, _+_, _*_, _/_, _%_, _≤_, _<_}
 use native.Mathlib.Nat.{mul-comm, div-add-mod', zero-lt-suc, mod-lt}
 use native.Mathlib.Omega.{arith}
 use lib.Arith.{digits-div, digits-mod}
-use lib.Dec.{eqb, ltb}
+use lib.Dec.{eqb}
 use lib.ListN.{getD}
 use borrow.Author.Tests.{eqb-true, eqb-false, eq-eqb, ne-eqb, ltb-false, lt-ltb, le-ltb}
 use Rattle.counting.specs.Count.{build}
@@ -16,7 +15,6 @@ use Rattle.counting.proofs.Build.{getD-build}
 use Rattle.tally.specs.Tally.{confidenceAt}
 use Rattle.tally.proofs.Laws.{fits}
 use Rattle.run.specs.declared.Reason.{Reason}
-use Rattle.run.specs.declared.Reasons.{Reasons}
 use Rattle.run.specs.Iteration.{noReason, reasonFrom, reasonIn, reasonsOf}
 use Rattle.run.specs.State.{kept, unsaid, unlisted, notYetDone, tooSure, unfit, badReason}
 
@@ -106,7 +104,8 @@ module _ (t done : ℕ) (r : Reason) where
     module _ (is-done : r .iteration ≤ done) where
       pub bad-sure : 1 < r .confidence → badReason t done true r ≡ true
       unfolding badReason unsaid unlisted notYetDone tooSure
-      bad-sure h = rw (ne-eqb (r .iteration) 0 some, le-ltb done (r .iteration) is-done, lt-ltb 1 (r .confidence) h) refl
+      bad-sure h =
+          rw (ne-eqb (r .iteration) 0 some, le-ltb done (r .iteration) is-done, lt-ltb 1 (r .confidence) h) refl
 
       pub bad-by-fit : r .confidence ≤ 1 →
           not (eqb (confidenceAt t (r .support)) (r .confidence)) ≡ badReason t done true r

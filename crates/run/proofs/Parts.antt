@@ -86,7 +86,8 @@ module _ (s : Run) (i : ℕ) (low : 1 ≤ s .n) (high : s .n ≤ 13) (box : Soun
       small k l = subst (λ (m : ℕ). m ≤ 2) (sym (getD-build (s .n) (conf i) k 0 l)) (confidence-le _ _)
 
   -- so the row from box i's part is the definition's new row
-  pub row-of : length rows ≡ 169 → length confs ≡ 169 → rowFrom (s .n) (getD (s .rows) i 0) rows confs i ≡ newRow s table i
+  pub row-of : length rows ≡ 169 → length confs ≡ 169 →
+      rowFrom (s .n) (getD (s .rows) i 0) rows confs i ≡ newRow s table i
   unfolding rowFrom newRow
   row-of lr lc = ap (λ (chosen : ℕ). cond (eqb chosen 0) (getD (s .rows) i 0) chosen) (choice-of lr lc)
 

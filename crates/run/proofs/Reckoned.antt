@@ -1,14 +1,14 @@
 -- Refusal 14 of the reasons by counting. Where each listed box has a good reason, something is kept for it. So as many
 -- places as are listed keep something exactly where no other place does, and then no reason is bad. Assumes nothing.
 use mathlib.Core.Path.{_≡_, refl, sym, ap, _∙_, subst}
-use mathlib.Core.Bool.{Bool, true, false, not, _&&_, _||_}
+use mathlib.Core.Bool.{Bool, true, false, not, _&&_}
 use mathlib.Core.Logic.{⊎-elim}
-use Prim.Native.Nat.{ℕ, _+_, _*_, _/_, _%_, _^_, _≤_, _<_}
+use Prim.Native.Nat.{ℕ, _+_, _*_, _/_, _%_, _≤_, _<_}
 use native.Mathlib.Omega.{arith}
 use lib.Dec.{eqb, ltb}
 use lib.ListN.{getD}
 use lib.Pow.{pow-pos}
-use borrow.Author.Tests.{eqb-true, eqb-false, eq-eqb, ltb-true, ltb-false, le-ltb}
+use borrow.Author.Tests.{eqb-true, eqb-false, ltb-true, ltb-false, le-ltb}
 use Rattle.counting.specs.Count.{any, count}
 use Rattle.counting.specs.Sets.{member}
 use Rattle.counting.proofs.Bools.{
@@ -29,7 +29,7 @@ use Rattle.sizes.proofs.Laws.{lt-within}
 use Rattle.run.specs.declared.Reason.{Reason}
 use Rattle.run.specs.declared.Run.{Run}
 use Rattle.run.specs.Inside.{badListing}
-use Rattle.run.specs.Iteration.{noReason, reasonIn, reasonAt}
+use Rattle.run.specs.Iteration.{reasonIn, reasonAt}
 use Rattle.run.specs.State.{badPlace, listedBy, kept, badReason, badReasons}
 use Rattle.run.proofs.Entries.{bad-box, bad-none}
 use Rattle.run.proofs.Listings.{
@@ -98,7 +98,9 @@ module _ (s : Run) (high : s .n ≤ 13) (good : any 13 (badPlace s) ≡ false) w
   pub listed-all : (i : ℕ) {listed : ℕ} → i ≡ s .n → listed ≡ count (13 * i) listedPlace → listed ≡ count 169 listedPlace
   listed-all i same e =
       e ∙ count-wide 169 listedPlace (omega (arith, same, high))
-      (λ p h l. none-above (p / 13) (p % 13) (omega (arith, h, same, place-again p, leader-lt p)) (omega (arith, l, place-again p)))
+      (λ p h l.
+      none-above (p / 13) (p % 13) (omega (arith, h, same, place-again p, leader-lt p))
+      (omega (arith, l, place-again p)))
 
   -- has some box on the list of box i a bad reason?
   abbrev pub badBox : ℕ → Bool
@@ -144,7 +146,8 @@ module _ (s : Run) (high : s .n ≤ 13) (good : any 13 (badPlace s) ≡ false) w
     listed-kept : (p : ℕ) → p < 169 → listedPlace p ≡ true → keptPlace p ≡ true
     listed-kept p l h =
         sym (ap kept (at-place p))
-        ∙ listing-kept (s .t) (s .done) (reasonAt s (p / 13) (p % 13)) (whole (p / 13) (p % 13) (box-lt p l) (leader-lt p) h)
+        ∙ listing-kept (s .t) (s .done) (reasonAt s (p / 13) (p % 13))
+        (whole (p / 13) (p % 13) (box-lt p l) (leader-lt p) h)
 
     -- as many are kept as are listed: then nothing is kept for any other
     equal-good : count 169 keptPlace ≡ count 169 listedPlace → any 13 (badReasons s) ≡ false

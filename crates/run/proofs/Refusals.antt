@@ -1,6 +1,5 @@
--- The refusals of a start begin with 4, 5 and 6, those of an iteration and of the call that says why with 4, 5, 6 and 9;
--- where those pass, the rest of the list decides.
--- Assumes nothing.
+-- The refusals of a start begin with 4, 5 and 6, those of an iteration and of the call that says why with 4, 5, 6 and
+-- 9; where those pass, the rest of the list decides. Assumes nothing.
 use mathlib.Core.Path.{_≡_, refl, sym}
 use mathlib.Core.Bool.{false, not}
 use mathlib.Core.List.{List, [], _∷_}
@@ -149,6 +148,11 @@ module _ (s : Run) where
         _≡_ {A = Why} (record { refusal = 0; run = s; reason = reason }) (whyReply s asked listed)
     unfolding whyReply
     why-taken reason e h = rw (e, h) refl
+
+    pub why-reason : whyRefusal s asked listed ≡ 0 →
+        whyReply s asked listed .reason ≡ reasonAt s (asked - 1) (listed - 1)
+    unfolding whyReply
+    why-reason e = rw e refl
 
 module _ (s : Run) (table : List ℕ) where
   pub iterate-fails : (firstRefusal s ≡ 0 → ⊥) → firstRefusal s ≡ iterateRefusal s table

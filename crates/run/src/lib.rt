@@ -50,8 +50,8 @@ pub struct Reason {
     pub support: u8,
 }
 
-// The reasons of all boxes, part by part: box i and leader k stand at place 13 i + k, for every n. Three arrays, and not
-// one of reasons: so sixteen places are looked at together.
+// The reasons of all boxes, part by part: box i and leader k stand at place 13 i + k, for every n. Three arrays, and
+// not one of reasons: so sixteen places are looked at together.
 pub struct Reasons {
     pub iterations: [u8; 169],
     pub confidences: [u8; 169],
@@ -632,8 +632,8 @@ fn kept_now(joins: bool, found: u8, kept: u8) -> u8
     if joins { found } else { kept }
 }
 
-// Step 5: the reasons that box i keeps. Where its list has not changed nobody joins. Those behind place n stay: no box is
-// there to join.
+// Step 5: the reasons that box i keeps. Where its list has not changed nobody joins. Those behind place n stay: no
+// box is there to join.
 fn keep_box<'a, 'b>(
     j: Joining,
     i: usize,

@@ -1,5 +1,5 @@
--- The parts of the line of a reason: how long a part can be as a line of its own, and that a part which is put from the
--- newline of the one before on makes one line with it. Assumes nothing.
+-- The parts of the line of a reason: how long a part can be as a line of its own, and that a part which is put from
+-- the newline of the one before on makes one line with it. Assumes nothing.
 use mathlib.Core.Path.{_≡_, refl, sym, ap, ap₂, subst, _∙_}
 use mathlib.Core.List.{List, [], _∷_, _++_, append-assoc}
 use Prim.Native.Nat.{ℕ, _+_, _-_, _^_, _≤_, _<_}

@@ -1,5 +1,5 @@
 -- `run::asking_refusal` meets its contract: it makes the tests of refusals 14 and 15 in their order. Assumes nothing.
-use mathlib.Core.Path.{_≡_, refl, sym, _∙_}
+use mathlib.Core.Path.{_≡_, sym, _∙_}
 use mathlib.Core.Bool.{false, _||_}
 use mathlib.Core.List.{[]}
 use native.Mathlib.Omega.{arith}
@@ -9,7 +9,7 @@ use Rattle.counting.proofs.Refuse.{refused, passed, none-left}
 use Rattle.run.specs.declared.Run.{Run}
 use Rattle.run.specs.Inside.{askingRefusal}
 use Rattle.run.specs.State.{badState}
-use Rattle.run.specs.Why.{overdone, notAsked, noBox}
+use Rattle.run.specs.Why.{overdone, notAsked}
 use borrow.Author.Needs.{needs}
 use Rattle.run.proofs.asking_refusal.Statement.{statement}
 use Rattle.run.proofs.asking_refusal.Tie as tie

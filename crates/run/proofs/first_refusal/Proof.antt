@@ -1,4 +1,5 @@
--- `run::first_refusal` meets its contract: it makes the tests of refusals 4, 5, 6 and 9 in their order. Assumes nothing.
+-- `run::first_refusal` meets its contract: it makes the tests of refusals 4, 5, 6 and 9 in their order. Assumes
+-- nothing.
 use mathlib.Core.Path.{_≡_, sym, _∙_}
 use mathlib.Core.List.{[]}
 use native.Mathlib.Omega.{arith}

@@ -1,10 +1,10 @@
--- `run::has_bad_reason` meets its contract: a turn ends the search at a box with a bad reason on its list; after i turns
--- the first i have none, and those on their lists are counted. Then the places that keep something decide. What is left
--- of n falls. Assumes nothing.
+-- `run::has_bad_reason` meets its contract: a turn ends the search at a box with a bad reason on its list; after i
+-- turns the first i have none, and those on their lists are counted. Then the places that keep something decide. What
+-- is left of n falls. Assumes nothing.
 use mathlib.Core.Path.{_≡_, refl, sym, ap₂, _∙_}
 use mathlib.Core.Bool.{Bool, not}
 use mathlib.Core.List.{List}
-use Prim.Native.Nat.{ℕ, _+_, _-_, _*_, _/_, _%_, _≤_, _<_}
+use Prim.Native.Nat.{ℕ, _+_, _-_, _*_, _/_, _%_, _<_}
 use native.Mathlib.Omega.{arith}
 use lib.Dec.{eqb}
 use lib.ListN.{getD}
@@ -80,7 +80,8 @@ returns c =
 -- how many are on the list of box i
 listed-of : (c : tie.Else1 Inv-loop μ-loop) →
     let turn = turn-of (c .before) in
-    c .before .look-at .result .listed ≡ count 13 (member (getD (start-of turn .args .s .lists) (turn .before .loop .i) 0))
+    c .before .look-at .result .listed ≡
+    count 13 (member (getD (start-of turn .args .s .lists) (turn .before .loop .i) 0))
 listed-of c = c .before .look-at .ensures .1 (c .if1 .left)
 
 add-listed : tie.Need-add-listed Inv-loop μ-loop

@@ -5,7 +5,6 @@ use mathlib.Core.Bool.{Bool, true, not, _&&_}
 use Prim.Native.Nat.{ℕ}
 use lib.Dec.{eqb}
 use Rattle.counting.proofs.Bools.{both, not-both, not-true, not-false}
-use Rattle.run.specs.declared.Reason.{Reason}
 use Rattle.run.specs.State.{badReason}
 use Rattle.run.proofs.Listings.{bad-unsaid, bad-early, bad-sure, bad-by-fit}
 use borrow.Author.Needs.{needs}

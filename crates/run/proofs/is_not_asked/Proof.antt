@@ -1,5 +1,5 @@
--- `run::is_not_asked` meets its contract: a number that is no box cannot be asked, and of a box its place in the faulty
--- set decides. Assumes nothing.
+-- `run::is_not_asked` meets its contract: a number that is no box cannot be asked, and of a box its place in the
+-- faulty set decides. Assumes nothing.
 use mathlib.Core.Path.{_≡_, sym, ap, _∙_}
 use mathlib.Core.Bool.{Bool, false, _||_}
 use Prim.Native.Nat.{_-_}

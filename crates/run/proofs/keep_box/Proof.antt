@@ -1,11 +1,11 @@
--- `run::keep_box` meets its contract: a list that has not changed is joined by nobody. Otherwise the places of box i are
--- looked at one by one, and after k turns the first k hold what they should; behind n nobody joins. What is left of n
--- falls. Assumes nothing.
-use mathlib.Core.Path.{_≡_, refl, sym, ap, _∙_}
+-- `run::keep_box` meets its contract: a list that has not changed is joined by nobody. Otherwise the places of box i
+-- are looked at one by one, and after k turns the first k hold what they should; behind n nobody joins. What is left
+-- of n falls. Assumes nothing.
+use mathlib.Core.Path.{_≡_, sym, ap, _∙_}
 use mathlib.Core.Bool.{Bool, cond}
 use Prim.Native.Nat.{ℕ, _+_, _-_, _*_, _≤_, _<_}
 use native.Mathlib.Omega.{arith}
-use lib.ListN.{length, getD}
+use lib.ListN.{length}
 use Rattle.gradecast.proofs.Cells.{part-fits, place-fits}
 use Rattle.run.specs.Inside.{cellOf, joinsIn}
 use Rattle.run.proofs.Keep.{SoFar, so-far-begins, so-far-turn, so-far-ends, box-stays}
@@ -184,7 +184,8 @@ joins-is c =
     (turn .before .before .if1 .left))
 
 -- what a place of a part gets
-gets : (c : tie.After-joins-now Inv-loop μ-loop) (found kept : ℕ) {v : ℕ} → v ≡ cond (c .joins-now .result) found kept →
+gets : (c : tie.After-joins-now Inv-loop μ-loop) (found kept : ℕ) {v : ℕ} →
+    v ≡ cond (c .joins-now .result) found kept →
     let turn = turn-of c in
     v ≡ cond (joinsIn (box-of turn .args .t1) (box-of turn .args .i) (turn .before .loop .k)) found kept
 gets c found kept e = e ∙ ap (λ (b : Bool). cond b found kept) (joins-is c)

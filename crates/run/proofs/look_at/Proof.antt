@@ -1,13 +1,11 @@
--- `run::look_at` meets its contract: an empty list has nobody on it. Otherwise a turn ends the search at a listed box with
--- a bad reason; after k turns none of the first k is one, and those of them that are listed are counted. Behind n
--- nobody is listed. What is left of n falls. Assumes nothing.
-use mathlib.Core.Path.{_≡_, refl, sym, ap, _∙_}
+-- `run::look_at` meets its contract: an empty list has nobody on it. Otherwise a turn ends the search at a listed box
+-- with a bad reason; after k turns none of the first k is one, and those of them that are listed are counted. Behind
+-- n nobody is listed. What is left of n falls. Assumes nothing.
+use mathlib.Core.Path.{_≡_, sym, ap, _∙_}
 use mathlib.Core.Bool.{Bool, true, false, cond, _&&_, true≢false}
 use mathlib.Core.List.{List}
 use Prim.Native.Nat.{ℕ, _+_, _-_, _*_, _≤_, _<_}
 use native.Mathlib.Omega.{arith}
-use lib.ListN.{length}
-use Rattle.counting.specs.Count.{any, count}
 use Rattle.counting.specs.Sets.{member}
 use Rattle.counting.proofs.Bools.{not-both}
 use Rattle.counting.proofs.Count.{count-none, none-any, count-wide, any-wide}
@@ -102,8 +100,8 @@ is-bad : (c : tie.After-is-bad-reason Inv-loop μ-loop) →
     let turn = turn-of c in
     let a = box-of turn .args in
     c .is-bad-reason .result ≡
-    badListing (a .limits .t) (a .limits .done) (a .list) (why (a .i) (a .iterations .now) (a .sure .now) (a .backed .now))
-    (turn .before .loop .k)
+    badListing (a .limits .t) (a .limits .done) (a .list)
+    (why (a .i) (a .iterations .now) (a .sure .now) (a .backed .now)) (turn .before .loop .k)
 unfolding badListing reasonFrom
 is-bad c =
     let turn = turn-of c in

@@ -1,6 +1,6 @@
--- `run::new_row` meets its contract: box i's parts of the 169 places are handed to the choice, and where none is chosen
--- the old row stays. Assumes nothing.
-use mathlib.Core.Path.{_≡_, refl, sym, ap, _∙_}
+-- `run::new_row` meets its contract: box i's parts of the 169 places are handed to the choice, and where none is
+-- chosen the old row stays. Assumes nothing.
+use mathlib.Core.Path.{_≡_, refl, ap, _∙_}
 use Prim.Native.Nat.{ℕ, _+_, _-_, _*_, _≤_}
 use native.Mathlib.Omega.{arith}
 use lib.ListN.{take, drop}
@@ -53,14 +53,16 @@ start-of c = c .before .before .before .before .before
 
 chosen : (c : tie.After-choose) →
     let a = start-of c .args in
+    let from = a .i * a .n in
     c .choose .result .row ≡
-    choiceReply (take (a .n) (drop (a .i * a .n) (a .rows .now))) (take (a .n) (drop (a .i * a .n) (a .confidences .now))) .row
+    choiceReply (take (a .n) (drop from (a .rows .now))) (take (a .n) (drop from (a .confidences .now))) .row
 chosen c =
     let a = start-of c .args in
     let from = a .i * a .n in
     let size : from + a .n - from ≡ a .n = omega arith in
     ap (λ (r : Chosen). r .row) (c .choose .ensures)
-    ∙ ap (λ (m : ℕ). choiceReply (take m (drop from (a .rows .now))) (take m (drop from (a .confidences .now))) .row) size
+    ∙ ap (λ (m : ℕ). choiceReply (take m (drop from (a .rows .now))) (take m (drop from (a .confidences .now))) .row)
+    size
 
 returns : tie.Need-returns
 unfolding rowFrom

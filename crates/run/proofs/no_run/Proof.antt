@@ -1,9 +1,7 @@
 -- `run::no_run` meets its contract: each number is 0, each array is made of zeros, and there are no reasons. Assumes
 -- nothing.
-use mathlib.Core.Path.{_≡_, sym, ap, _∙_}
+use mathlib.Core.Path.{_≡_, sym, _∙_}
 use lib.ListN.{replicate}
-use Rattle.run.specs.declared.Reasons.{Reasons}
-use Rattle.run.specs.declared.Run.{Run}
 use Rattle.run.specs.State.{zeros}
 use borrow.Author.Needs.{needs}
 use Rattle.run.proofs.no_run.Statement.{statement}

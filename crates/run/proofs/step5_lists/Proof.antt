@@ -1,5 +1,5 @@
--- `run::step5_lists` meets its contract: after i turns the first i lists are filled, and those above n are empty. What is
--- left of n falls. Assumes nothing.
+-- `run::step5_lists` meets its contract: after i turns the first i lists are filled, and those above n are empty.
+-- What is left of n falls. Assumes nothing.
 use mathlib.Core.Path.{refl, _∙_}
 use mathlib.Core.List.{List}
 use Prim.Native.Nat.{ℕ, _-_, _<_}

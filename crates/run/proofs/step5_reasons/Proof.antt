@@ -1,5 +1,4 @@
 -- `run::step5_reasons` meets its contract: each part is copied, lent and put back. Assumes nothing.
-use mathlib.Core.Path.{_≡_}
 use Rattle.run.specs.Inside.{keptReasons}
 use borrow.Author.Needs.{needs}
 use Rattle.run.proofs.step5_reasons.Statement.{statement}

@@ -1,5 +1,5 @@
--- `run::Run::why` meets its contract: it refuses with no reason, and otherwise reads the three parts at the place of the
--- two boxes. Assumes nothing.
+-- `run::Run::why` meets its contract: it refuses with no reason, and otherwise reads the three parts at the place of
+-- the two boxes. Assumes nothing.
 use mathlib.Core.Path.{_≡_, refl, sym, _∙_}
 use Prim.Native.Nat.{_+_, _-_, _*_, _≤_, _<_}
 use native.Mathlib.Omega.{arith}
