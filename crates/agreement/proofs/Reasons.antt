@@ -3,7 +3,7 @@
 -- of the replies of any calls that meet the contracts, and of what the call that says why replies on their states.
 -- Assumes nothing.
 use mathlib.Core.Path.{_≡_, refl, sym, ap, ap₂, _∙_, subst}
-use mathlib.Core.Bool.{Bool, true, false, not, _&&_, _||_}
+use mathlib.Core.Bool.{Bool, true, false, not}
 use mathlib.Core.List.{List}
 use mathlib.Core.Logic.{⊎-elim}
 use Prim.Native.Nat.{ℕ, zero, suc, _+_, _-_, _≤_, _<_}
@@ -37,7 +37,7 @@ use Rattle.run.specs.declared.Run.{Run}
 use Rattle.run.specs.declared.Why.{Why}
 use Rattle.run.specs.Iteration.{noReason, reasonAt, joinsNow, reasonNow, nextRun}
 use Rattle.run.specs.Legal.{Legal}
-use Rattle.run.specs.State.{startRun, startReply, listedBy, after}
+use Rattle.run.specs.State.{listedBy, after}
 use Rattle.run.specs.Why.{whyRefusal, whyReply}
 use Rattle.run.proofs.Accepted.{askable-is, number-is}
 use Rattle.run.proofs.Calls.{Calls, calls-are, WhyCall, why-call-is}

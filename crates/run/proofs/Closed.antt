@@ -11,7 +11,7 @@ use native.Mathlib.Omega.{arith}
 use lib.Dec.{eqb, ltb}
 use lib.ListN.{getD}
 use lib.Pow.{pow-pos}
-use borrow.Author.Tests.{eqb-true, eq-eqb, ltb-true, ltb-false, le-ltb}
+use borrow.Author.Tests.{eq-eqb, ltb-true, ltb-false, le-ltb}
 use Rattle.counting.specs.Count.{any}
 use Rattle.counting.specs.Sets.{member}
 use Rattle.counting.proofs.Bools.{
@@ -21,10 +21,8 @@ use Rattle.counting.proofs.Bools.{
   and-false-right,
   not-of-true,
   not-of-false,
-  not-false,
   or-none,
   or-true-left,
-  or-false-right,
   cond-true,
   cond-false,
 }
@@ -65,7 +63,7 @@ use Rattle.run.specs.State.{
 }
 use Rattle.run.specs.Legal.{Legal}
 use Rattle.gradecast.proofs.Grades.{confidence-by}
-use Rattle.run.proofs.Entries.{bad-none}
+use Rattle.run.proofs.Entries.{no-list}
 use Rattle.run.proofs.Fits.{sent-within, list-below}
 use Rattle.run.proofs.Listings.{Listing, good-listed, listed-good, unlisted-none, none-good}
 use Rattle.run.proofs.Kept.{
@@ -107,16 +105,13 @@ listed-member s i k h = h
 -- who may be on a list of a legal state: a box of the n on that of a sound box
 module _ (s : Run) (legal : Legal s) (i k : ℕ) (li : i < 13) (listed : listedBy s i k ≡ true) where
   pub listing-box : SoundBox (s .n) (s .faulty) i
-  unfolding listedBy badPlace
+  unfolding listedBy
   listing-box = box-is (s .n) (s .faulty) i (go (ltb i (s .n) && sound (s .faulty) i) refl)
     where
       go : (b : Bool) → (ltb i (s .n) && sound (s .faulty) i) ≡ b → (ltb i (s .n) && sound (s .faulty) i) ≡ true
       go true e = e
       go false e =
-          let row = getD (s .rows) i 0 in
-          let list = getD (s .lists) i 0 in
-          let good = bad-none (s .n) (s .faulty) i row list e ∙ any-none 13 (badPlace s) (legal .pass14-places) i li in
-          let zero : list ≡ 0 = eqb-true list 0 (not-false (eqb list 0) (or-false-right (not (eqb row 0)) _ good)) in
+          let zero = no-list s (legal .pass14-places) i li e in
           never listed (subst (λ (l : ℕ). member l k ≡ false) (sym zero) (member-empty k))
 
   pub listed-one : k < s .n

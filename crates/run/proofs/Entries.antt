@@ -1,14 +1,27 @@
 -- The entry of a place: what the test "one of the n boxes, and sound" says of it. Assumes nothing.
-use mathlib.Core.Path.{_≡_, sym}
+use mathlib.Core.Path.{_≡_, sym, _∙_}
 use mathlib.Core.Bool.{true, false, not, _&&_, _||_}
 use Prim.Native.Nat.{ℕ, _≤_, _<_}
 use lib.Dec.{eqb, ltb}
-use borrow.Author.Tests.{ltb-true, le-ltb}
+use lib.ListN.{getD}
+use borrow.Author.Tests.{eqb-true, ltb-true, le-ltb}
+use Rattle.counting.specs.Count.{any}
 use Rattle.counting.specs.Sets.{member}
-use Rattle.counting.proofs.Bools.{and-left, and-right, not-both, not-true, cond-true, cond-false}
+use Rattle.counting.proofs.Bools.{
+  and-left,
+  and-right,
+  not-both,
+  not-true,
+  not-false,
+  or-false-right,
+  cond-true,
+  cond-false,
+}
+use Rattle.counting.proofs.Count.{any-none}
 use Rattle.sizes.specs.Sizes.{sound, stray}
+use Rattle.run.specs.declared.Run.{Run}
 use Rattle.run.specs.Iteration.{entry}
-use Rattle.run.specs.State.{badEntry}
+use Rattle.run.specs.State.{badEntry, badPlace}
 
 module _ (n faulty k : ℕ) where
   pub is-box : ltb k n && sound faulty k ≡ true → k < n
@@ -37,3 +50,13 @@ module _ (n faulty k : ℕ) where
       not (eqb row 0) || not (eqb list 0) ≡ badEntry n faulty k row list
   unfolding badEntry
   bad-none row list h = sym (cond-false (stray n list) (not (eqb row 0) || not (eqb list 0)) h)
+
+-- in a state whose places are good, the list of a place without a sound box is empty
+pub no-list : (s : Run) → any 13 (badPlace s) ≡ false → (i : ℕ) → i < 13 →
+    (ltb i (s .n) && sound (s .faulty) i) ≡ false → getD (s .lists) i 0 ≡ 0
+unfolding badPlace
+no-list s good i l e =
+    let row = getD (s .rows) i 0 in
+    let list = getD (s .lists) i 0 in
+    let fine = bad-none (s .n) (s .faulty) i row list e ∙ any-none 13 (badPlace s) good i l in
+    eqb-true list 0 (not-false (eqb list 0) (or-false-right (not (eqb row 0)) _ fine))

@@ -18,8 +18,6 @@ use Rattle.counting.proofs.Bools.{
   and-left,
   and-right,
   not-both,
-  not-false,
-  or-false-right,
   same,
 }
 use Rattle.counting.proofs.Count.{any-some, any-none, some-any, none-any, count-add, count-ext, count-strict, count-wide}
@@ -31,7 +29,7 @@ use Rattle.run.specs.declared.Run.{Run}
 use Rattle.run.specs.Inside.{badListing}
 use Rattle.run.specs.Iteration.{reasonIn, reasonAt}
 use Rattle.run.specs.State.{badPlace, listedBy, kept, badReason, badReasons}
-use Rattle.run.proofs.Entries.{bad-box, bad-none}
+use Rattle.run.proofs.Entries.{bad-box, no-list}
 use Rattle.run.proofs.Listings.{
   place-box,
   place-leader,
@@ -48,15 +46,6 @@ use Rattle.run.proofs.Listings.{
 }
 
 module _ (s : Run) (high : s .n ≤ 13) (good : any 13 (badPlace s) ≡ false) where
-  -- the list of a place without a sound box is empty
-  empty : (i : ℕ) → i < 13 → (ltb i (s .n) && sound (s .faulty) i) ≡ false → getD (s .lists) i 0 ≡ 0
-  unfolding badPlace
-  empty i l e =
-      let row = getD (s .rows) i 0 in
-      let list = getD (s .lists) i 0 in
-      let fine = bad-none (s .n) (s .faulty) i row list e ∙ any-none 13 (badPlace s) good i l in
-      eqb-true list 0 (not-false (eqb list 0) (or-false-right (not (eqb row 0)) _ fine))
-
   -- a list holds boxes below n alone
   pub list-within : (i : ℕ) → i < 13 → stray (s .n) (getD (s .lists) i 0) ≡ false
   unfolding badPlace
@@ -67,13 +56,13 @@ module _ (s : Run) (high : s .n ≤ 13) (good : any 13 (badPlace s) ≡ false) w
           bad-box (s .n) (s .faulty) i (getD (s .rows) i 0) (getD (s .lists) i 0) e
           ∙ any-none 13 (badPlace s) good i l
       go false e =
-          subst (λ (list : ℕ). stray (s .n) list ≡ false) (sym (empty i l e)) (lt-within (s .n) 0 (pow-pos (s .n)))
+          subst (λ (list : ℕ). stray (s .n) list ≡ false) (sym (no-list s good i l e)) (lt-within (s .n) 0 (pow-pos (s .n)))
 
   -- behind n nobody is listed
   none-above : (i k : ℕ) → s .n ≤ i → i < 13 → listedBy s i k ≡ false
   unfolding listedBy
   none-above i k h l =
-      ap (λ (list : ℕ). member list k) (empty i l (not-both (sound (s .faulty) i) (le-ltb i (s .n) h)))
+      ap (λ (list : ℕ). member list k) (no-list s good i l (not-both (sound (s .faulty) i) (le-ltb i (s .n) h)))
       ∙ member-empty k
 
   -- the places that are listed, and those that keep something

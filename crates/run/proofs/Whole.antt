@@ -6,14 +6,13 @@ use mathlib.Core.List.{List}
 use mathlib.Core.Logic.{⊎-elim}
 use Prim.Native.Nat.{ℕ, _+_, _*_, _/_, _%_, _≤_, _<_}
 use native.Mathlib.Omega.{arith}
-use lib.Dec.{eqb, ltb}
+use lib.Dec.{ltb}
 use lib.ListN.{length, getD, List·getD-eq-default}
-use borrow.Author.Tests.{eqb-true, ltb-true, ltb-false, le-ltb}
+use borrow.Author.Tests.{ltb-true, ltb-false, le-ltb}
 use Rattle.counting.specs.Count.{build}
 use Rattle.counting.specs.Sets.{member}
-use Rattle.counting.proofs.Bools.{either, not-both, not-false, or-false-right, cond-false}
+use Rattle.counting.proofs.Bools.{either, not-both, cond-false}
 use Rattle.counting.proofs.Build.{build-ext, length-build, getD-build, front-all}
-use Rattle.counting.proofs.Count.{any-none}
 use Rattle.sizes.specs.Sizes.{sound}
 use Rattle.sizes.proofs.Laws.{inside-low, inside-high, tolerated-lt}
 use Rattle.gradecast.specs.declared.Cast.{Cast}
@@ -55,9 +54,8 @@ use Rattle.run.specs.Iteration.{
   newReason,
   nextRun,
 }
-use Rattle.run.specs.State.{badPlace}
 use Rattle.run.proofs.Accepted.{Iterable}
-use Rattle.run.proofs.Entries.{bad-none}
+use Rattle.run.proofs.Entries.{no-list}
 use Rattle.run.proofs.Fits.{sent-at-most}
 use Rattle.run.proofs.Kept.{Joins, joins-by, joins-none, joins-above, joins-is}
 use Rattle.run.proofs.Listings.{place-again}
@@ -176,18 +174,13 @@ module _ (s : Run) (table : List ℕ) (a : Iterable s table) where
 
       -- a list that has changed is that of a sound box
       changed : (i : ℕ) → i < s .n → (getD (s .lists) i 0 ≡ getD lists i 0 → ⊥) → SoundBox (s .n) (s .faulty) i
-      unfolding badPlace entry
+      unfolding entry
       changed i l h = box-is (s .n) (s .faulty) i (go (ltb i (s .n) && sound (s .faulty) i) refl)
         where
           go : (b : Bool) → (ltb i (s .n) && sound (s .faulty) i) ≡ b → (ltb i (s .n) && sound (s .faulty) i) ≡ true
           go true e = e
           go false e =
-              let row = getD (s .rows) i 0 in
-              let list = getD (s .lists) i 0 in
-              let good =
-              bad-none (s .n) (s .faulty) i row list e
-              ∙ any-none 13 (badPlace s) (a .legal .pass14-places) i (omega (arith, l, high)) in
-              let zero = eqb-true list 0 (not-false (eqb list 0) (or-false-right (not (eqb row 0)) _ good)) in
+              let zero = no-list s (a .legal .pass14-places) i (omega (arith, l, high)) e in
               absurd (h (zero ∙ sym (new-at i ∙ cond-false (newList s table i) 0 e)))
 
       pub keeping : Keeping joining (r .confidences) (r .supports)
