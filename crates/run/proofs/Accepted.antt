@@ -27,17 +27,17 @@ module _ (s : Run) where
   unfolding badState
   good-first h = or-false-left (any 13 (badPlace s) || tooManySent s) (any 13 (badReasons s)) h
 
-  pub good-places : badState s ≡ false → any 13 (badPlace s) ≡ false
+  good-places : badState s ≡ false → any 13 (badPlace s) ≡ false
   good-places h = or-false-left (any 13 (badPlace s)) (tooManySent s) (good-first h)
 
-  pub good-sent : badState s ≡ false → tooManySent s ≡ false
+  good-sent : badState s ≡ false → tooManySent s ≡ false
   good-sent h = or-false-right (any 13 (badPlace s)) (tooManySent s) (good-first h)
 
-  pub good-reasons : badState s ≡ false → any 13 (badReasons s) ≡ false
+  good-reasons : badState s ≡ false → any 13 (badReasons s) ≡ false
   unfolding badState
   good-reasons h = or-false-right (any 13 (badPlace s) || tooManySent s) (any 13 (badReasons s)) h
 
-  pub good-state : Legal s → badState s ≡ false
+  good-state : Legal s → badState s ≡ false
   unfolding badState
   good-state l = or-none (or-none (l .pass14-places) (l .pass14-sent)) (l .pass14-reasons)
 

@@ -26,7 +26,7 @@ module _ (j : Joining) (found : ℕ → ℕ → ℕ) where
   at-place first i k l = rw (place-box i l, place-leader i l) refl
 
   -- no place is looked at yet
-  pub kept-none : (first : List ℕ) → first ≡ keptTo 0 j found first
+  kept-none : (first : List ℕ) → first ≡ keptTo 0 j found first
   unfolding keptTo
   kept-none first = front-none _ first
 

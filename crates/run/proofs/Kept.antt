@@ -162,16 +162,16 @@ module _ (s : Run) (table : List ℕ) where
   next-reason i k li lk = reason-of (newReason s table) i k li lk
 
   -- nobody is on the list of a place without a sound box, and no box at n or above is on any
-  pub entry-none : (i k : ℕ) → (SoundBox (s .n) (s .faulty) i → ⊥) →
+  unlisted : (i k : ℕ) → (SoundBox (s .n) (s .faulty) i → ⊥) →
       member (entry (s .n) (s .faulty) (newList s table) i) k ≡ false
   unfolding entry
-  entry-none i k h =
+  unlisted i k h =
       ap (λ (list : ℕ). member list k) (cond-false (newList s table i) 0 (no-box (s .n) (s .faulty) i h))
       ∙ member-empty k
 
-  pub entry-above : (i k : ℕ) → s .n ≤ k → member (entry (s .n) (s .faulty) (newList s table) i) k ≡ false
+  above : (i k : ℕ) → s .n ≤ k → member (entry (s .n) (s .faulty) (newList s table) i) k ≡ false
   unfolding entry newList
-  entry-above i k h = go (ltb i (s .n) && sound (s .faulty) i)
+  above i k h = go (ltb i (s .n) && sound (s .faulty) i)
     where
       go : (b : Bool) → member (cond b (newList s table i) 0) k ≡ false
       go true =
@@ -205,11 +205,11 @@ module _ (s : Run) (table : List ℕ) where
 
   pub joins-none : (i k : ℕ) → (SoundBox (s .n) (s .faulty) i → ⊥) → joinsNow s table i k ≡ false
   unfolding joinsNow joined
-  joins-none i k h = not-both (not (member (getD (s .lists) i 0) k)) (entry-none i k h)
+  joins-none i k h = not-both (not (member (getD (s .lists) i 0) k)) (unlisted i k h)
 
   pub joins-above : (i k : ℕ) → s .n ≤ k → joinsNow s table i k ≡ false
   unfolding joinsNow joined
-  joins-above i k h = not-both (not (member (getD (s .lists) i 0) k)) (entry-above i k h)
+  joins-above i k h = not-both (not (member (getD (s .lists) i 0) k)) (above i k h)
 
   -- a box that joins: whose list it is, and what was found
   pub record Joins (i k : ℕ) : Type 0 where
