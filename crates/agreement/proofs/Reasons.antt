@@ -41,15 +41,17 @@ use Rattle.run.specs.State.{listedBy, after}
 use Rattle.run.specs.Why.{whyRefusal, whyReply}
 use Rattle.run.proofs.Accepted.{askable-is, number-is}
 use Rattle.run.proofs.Calls.{Calls, calls-are, WhyCall, why-call-is}
-use Rattle.run.proofs.Closed.{
-  start-listed,
-  stays-listed,
+use Rattle.run.proofs.Closed.{start-listed, stays-listed}
+use Rattle.run.proofs.Course.{Reached, start-run, reached, next-state}
+use Rattle.run.proofs.Kept.{
+  start-reason,
+  next-listed,
+  entry-member,
+  joins-is,
   reason-stays,
   reason-joins,
   joins-listed,
 }
-use Rattle.run.proofs.Course.{Reached, start-run, reached, next-state}
-use Rattle.run.proofs.Kept.{start-reason, next-listed, entry-member, joins-is}
 use Rattle.run.proofs.Refusals.{why-reason}
 use Rattle.agreement.specs.Demand.{replies, listsAfter, confidenceIn}
 use Rattle.agreement.specs.Reasons.{supportIn, TrueReason, Reasoned}
@@ -110,8 +112,8 @@ module _ (n t faulty : ℕ) (rows : List ℕ) (tables : ℕ → List ℕ) (last 
           let why = old .listed h in
           let new = listedBy (nextRun (state m) (tables m)) i k in
           let stays =
-          reason-stays (state m) (tables m) legal i k li lk
-          (joins-listed (state m) (tables m) legal i k li ∙ and-false-right new (not-of-true h)) in
+          reason-stays (state m) (tables m) i k li lk
+          (joins-listed (state m) (tables m) i k li ∙ and-false-right new (not-of-true h)) in
           subst (TrueReason n t faulty tables reply (suc m) i k) (sym stays)
           (record {
             before = why .before;
@@ -125,7 +127,7 @@ module _ (n t faulty : ℕ) (rows : List ℕ) (tables : ℕ → List ℕ) (last 
 
       joins : listedBy (state m) i k ≡ false → listedBy next i k ≡ true → joinsNow (state m) (tables m) i k ≡ true
       unfolding next
-      joins h e = joins-listed (state m) (tables m) legal i k li ∙ both e (not-of-false h)
+      joins h e = joins-listed (state m) (tables m) i k li ∙ both e (not-of-false h)
 
       now-listed : listedBy (state m) i k ≡ false → listedBy next i k ≡ true →
           TrueReason n t faulty tables reply (suc m) i k (reasonAt next i k)
@@ -134,7 +136,7 @@ module _ (n t faulty : ℕ) (rows : List ℕ) (tables : ℕ → List ℕ) (last 
           let j = joins h e in
           let get = own-confidence m (omega arith) in
           subst (TrueReason n t faulty tables reply (suc m) i k)
-          (sym (reason-joins (state m) (tables m) legal i k li lk j))
+          (sym (reason-joins (state m) (tables m) i k li lk j))
           (record {
             before = m;
             is-done = omega arith;
@@ -148,8 +150,8 @@ module _ (n t faulty : ℕ) (rows : List ℕ) (tables : ℕ → List ℕ) (last 
       still-none : listedBy (state m) i k ≡ false → listedBy next i k ≡ false → reasonAt next i k ≡ noReason
       unfolding next listedBy
       still-none h e =
-          reason-stays (state m) (tables m) legal i k li lk
-          (joins-listed (state m) (tables m) legal i k li ∙ not-both (not (listedBy (state m) i k)) e)
+          reason-stays (state m) (tables m) i k li lk
+          (joins-listed (state m) (tables m) i k li ∙ not-both (not (listedBy (state m) i k)) e)
           ∙ old .not-listed h
 
       still-sure : listedBy (state m) i k ≡ false → listedBy next i k ≡ false →
@@ -256,7 +258,8 @@ module _ {n t faulty : ℕ} {rows : List ℕ} {tables : ℕ → List ℕ} {last 
       (sym (calls-are calls m h))
 
   true-by : {m i k : ℕ} {r : Reason} → m ≤ last →
-      TrueReason n t faulty tables (replies n t faulty rows tables) m i k r → TrueReason n t faulty tables reply m i k r
+      TrueReason n t faulty tables (replies n t faulty rows tables) m i k r →
+      TrueReason n t faulty tables reply m i k r
   true-by {m} {i} {k} h w =
       let few : w .before ≤ last = omega (arith, h, w .is-done) in
       record {
@@ -316,7 +319,6 @@ module _ {n t faulty : ℕ} {rows : List ℕ} {tables : ℕ → List ℕ} {last 
           askable-is (reply m .run) (i + 1) (k + 1)
           (record {
             legal = there .legal;
-            done-few = omega (arith, there .done-m, there .same-t, h, most);
             asked-box = number-is (omega arith) (omega (arith, there .same-n, b .below));
             asked-sound =
                 ap₂ member (there .same-faulty) (omega arith) ∙ sound-not-faulty faulty i (b .is-sound);

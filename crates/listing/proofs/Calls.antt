@@ -12,10 +12,10 @@ use Rattle.run.specs.declared.Next.{Next}
 use Rattle.lines.specs.Line.{placed}
 use Rattle.listing.specs.declared.Listed.{Listed}
 use Rattle.listing.specs.File.{heading}
-use Rattle.listing.specs.Files.{SameButSound, Demand3Of}
+use Rattle.listing.specs.Files.{SameButSound, Demand3Of, ReasonedOf}
 use Rattle.listing.specs.Listing.{outcomeOf, endsWith, listReply, listWrites}
 use Rattle.listing.proofs.Alike.{listing-blind, outcome-blind}
-use Rattle.listing.proofs.Taken.{outcome-keeps}
+use Rattle.listing.proofs.Taken.{outcome-keeps, outcome-reasoned}
 use Rattle.listing.proofs.Whole.{outcome-ends}
 use Rattle.listing.proofs.list.Reads as ListReads
 use Rattle.listing.proofs.outcome.Reads as OutcomeReads
@@ -38,6 +38,13 @@ file-demand3 {bytes} c taken few =
     let e = outcome-call-is c in
     subst (λ (r : Next). Demand3Of bytes (r .run)) (sym e)
     (outcome-keeps bytes (sym (outcome-ends bytes) ∙ sym (ap (λ (r : Next). r .refusal) e) ∙ taken) few)
+
+-- why a box is on a list, of a file that is taken, with any number of faulty boxes
+pub file-reasons : {bytes : List ℕ} {r : Next} → OutcomeCall bytes r → r .refusal ≡ 0 → ReasonedOf bytes (r .run)
+file-reasons {bytes} c taken =
+    let e = outcome-call-is c in
+    subst (λ (r : Next). ReasonedOf bytes (r .run)) (sym e)
+    (outcome-reasoned bytes (sym (outcome-ends bytes) ∙ sym (ap (λ (r : Next). r .refusal) e) ∙ taken))
 
 -- files that differ only in sound senders' places have one outcome
 pub calls-outcome-blind : {a b : List ℕ} {p q : Next} → SameButSound a b → OutcomeCall a p → OutcomeCall b q → p ≡ q

@@ -1,7 +1,7 @@
 -- A file that is taken, that is, whose listing ends with `sent`: all its iterations are done, and the outcome is the
--- state after them. So what the agreement promises of a run, demand 3, it promises of the file. And how a listing
--- ends: with `sent` and the outcome's messages where the outcome has no refusal, with `refused` and its number where
--- it has one, and never with both. Assumes nothing.
+-- state after them. So what the agreement promises of a run, demand 3 and why a box is listed, it promises of the
+-- file. And how a listing ends: with `sent` and the outcome's messages where the outcome has no refusal, with
+-- `refused` and its number where it has one, and never with both. Assumes nothing.
 use mathlib.Core.Path.{_≡_, refl, sym, ap, subst, _∙_}
 use mathlib.Core.Bool.{false, _&&_}
 use mathlib.Core.List.{List, [], _∷_, _++_}
@@ -17,9 +17,14 @@ use Rattle.counting.proofs.Build.{length-build}
 use Rattle.sizes.specs.Sizes.{tableRows}
 use Rattle.sizes.proofs.Laws.{within-lt}
 use Rattle.gradecast.specs.Fair.{faultyBoxes}
+use Rattle.run.specs.declared.Run.{Run}
+use Rattle.run.specs.Iteration.{reasonAt}
 use Rattle.run.proofs.Accepted.{rows-not-zero}
+use Rattle.run.proofs.Calls.{calls-exist}
 use Rattle.agreement.specs.Demand.{Premises}
+use Rattle.agreement.specs.Reasons.{Reasoned}
 use Rattle.agreement.proofs.Agreement.{replies-keep}
+use Rattle.agreement.proofs.Reasons.{reasons-true}
 use Rattle.runfile.specs.File.{tableRow}
 use Rattle.lines.specs.Line.{lineOf}
 use Rattle.listing.specs.File.{
@@ -33,7 +38,7 @@ use Rattle.listing.specs.File.{
   refusedAt,
   due,
 }
-use Rattle.listing.specs.Files.{Demand3Of}
+use Rattle.listing.specs.Files.{Demand3Of, ReasonedOf}
 use Rattle.listing.specs.Listing.{
   sent-word,
   refused-word,
@@ -152,6 +157,20 @@ module _ (bytes : List ℕ) where
           valid = λ v h. d .valid v h last (le-refl _);
           unlisted = d .never-listed last (le-refl _);
         })
+
+    -- and why each box is on a list, with any number of faulty boxes
+    pub outcome-reasoned : ReasonedOf bytes (outcomeOf bytes .run)
+    unfolding stateAfter replyAfter due tableOf
+    outcome-reasoned i k b l =
+        let h = heading bytes in
+        let tables = tableOf (h .n) bytes in
+        let calls = calls-exist (h .n) (h .t) (h .faulty) (rowsOf bytes) tables (h .t + 1) in
+        subst
+        (λ (s : Run). Reasoned (h .n) (h .t) (h .faulty) tables (replyAfter bytes) (due bytes) i k (reasonAt s i k))
+        (sym outcome-run)
+        (reasons-true calls (le-refl (h .t + 1)) (heading-starts bytes good)
+        (λ m q. length-build (tableRows (h .n)) (tableRow (bytesOf (h .n) bytes m)))
+        (h .t + 1) i k (le-refl (h .t + 1)) b l)
 
   -- how a listing ends
   pub ends-sent : outcomeOf bytes .refusal ≡ 0 →

@@ -4,6 +4,7 @@ use mathlib.Core.Path.{_≡_, refl}
 use mathlib.Core.Bool.{false, not, _||_}
 use mathlib.Core.List.{List}
 use Prim.Native.Nat.{ℕ, _+_, _-_, _≤_}
+use native.Mathlib.Omega.{arith}
 use lib.Dec.{eqb, ltb}
 use lib.ListN.{length, getD}
 use borrow.Author.Tests.{eqb-true, eqb-false, eq-eqb, ne-eqb, ltb-false, le-ltb}
@@ -16,8 +17,16 @@ use Rattle.sizes.specs.Sizes.{outside, tooMany, stray, tableRows, soundZero, St
 use Rattle.gradecast.specs.Fair.{SoundRowsNotZero}
 use Rattle.gradecast.proofs.Boxes.{no-sound, sound-none}
 use Rattle.run.specs.declared.Run.{Run}
-use Rattle.run.specs.State.{startRefusal, badPlace, tooManySent, badReasons, badState, iterateRefusal}
-use Rattle.run.specs.Why.{overdone, noBox, notAsked, whyRefusal}
+use Rattle.run.specs.State.{
+  startRefusal,
+  badPlace,
+  tooManySent,
+  badReasons,
+  badState,
+  overdone,
+  iterateRefusal,
+}
+use Rattle.run.specs.Why.{noBox, notAsked, whyRefusal}
 use Rattle.run.specs.Legal.{Legal}
 
 -- refusal 14 by its three tests, both ways
@@ -40,6 +49,11 @@ module _ (s : Run) where
   good-state : Legal s → badState s ≡ false
   unfolding badState
   good-state l = or-none (or-none (l .pass14-places) (l .pass14-sent)) (l .pass14-reasons)
+
+-- where no more iterations are done than may be run
+pub not-over : (s : Run) → s .done ≤ s .t + 1 → overdone s ≡ false
+unfolding overdone
+not-over s l = le-ltb (s .t + 1) (s .done) l
 
 -- a call that is not refused: the state is legal, the table has its length, and not all iterations are done
 pub record Iterable (s : Run) (table : List ℕ) : Type 0 where
@@ -68,6 +82,7 @@ module _ (s : Run) (table : List ℕ) where
               pass14-places = good-places s (h14 .0);
               pass14-sent = good-sent s (h14 .0);
               pass14-reasons = good-reasons s (h14 .0);
+              pass14-done = not-over s (omega (arith, ltb-false (s .t) (s .done) (h12 .0)));
             };
         rows-of-table =
             eqb-true (length table) (tableRows (s .n)) (not-false (eqb (length table) (tableRows (s .n))) (h11 .0));
@@ -101,18 +116,16 @@ pub number-is : {n number : ℕ} → 1 ≤ number → number ≤ n → noBox n n
 unfolding noBox
 number-is {n} {number} low high = or-none (le-ltb number 1 low) (le-ltb n number high)
 
--- a question that is not refused: the state is legal, no more than t + 1 iterations are done, and the two are boxes,
--- of which the one that is asked is sound
+-- a question that is not refused: the state is legal, and the two are boxes, of which the one that is asked is sound
 pub record Askable (s : Run) (asked listed : ℕ) : Type 0 where
   pub legal : Legal s
-  pub done-few : s .done ≤ s .t + 1
   pub asked-box : noBox (s .n) asked ≡ false
   pub asked-sound : member (s .faulty) (asked - 1) ≡ false
   pub listed-box : noBox (s .n) listed ≡ false
 
 module _ (s : Run) (asked listed : ℕ) where
   pub is-askable : whyRefusal s asked listed ≡ 0 → Askable s asked listed
-  unfolding whyRefusal overdone notAsked
+  unfolding whyRefusal notAsked
   is-askable h0 =
       let h4 = accepted 3 (outside (s .n)) _ h0 in
       let h5 = accepted 4 (tooMany (s .n) (s .t)) _ (h4 .1) in
@@ -132,15 +145,15 @@ module _ (s : Run) (asked listed : ℕ) where
               pass14-places = good-places s good;
               pass14-sent = good-sent s good;
               pass14-reasons = good-reasons s good;
+              pass14-done = or-false-left (overdone s) (badState s) (h14 .0);
             };
-        done-few = ltb-false (s .t + 1) (s .done) (or-false-left (overdone s) (badState s) (h14 .0));
         asked-box = or-false-left (noBox (s .n) asked) (member (s .faulty) (asked - 1)) sound;
         asked-sound = or-false-right (noBox (s .n) asked) (member (s .faulty) (asked - 1)) sound;
         listed-box = or-false-right (notAsked s asked) (noBox (s .n) listed) (h15 .0);
       }
 
   pub askable-is : Askable s asked listed → whyRefusal s asked listed ≡ 0
-  unfolding whyRefusal firstOf overdone notAsked
+  unfolding whyRefusal firstOf notAsked
   askable-is a =
       let l = a .legal in
       rw (
@@ -148,7 +161,7 @@ module _ (s : Run) (asked listed : ℕ) where
         l .pass5,
         l .pass6,
         l .pass9,
-        le-ltb (s .t + 1) (s .done) (a .done-few),
+        l .pass14-done,
         good-state s l,
         a .asked-box,
         a .asked-sound,

@@ -1,4 +1,4 @@
--- A run made of calls: the contracts of `start` and `iterate`, as the toolchain states them, of one reply after
+-- A run made of calls: the contracts of `start`, `iterate` and `why`, as the toolchain states them, of one reply after
 -- another. Each reply is then the one that the definitions give, so that what is proved of those holds of every run
 -- that is made by calls. A contract that said less of its reply would not do. And there are such runs: what the
 -- definitions give is one. Assumes nothing.
@@ -114,7 +114,7 @@ iterate-call : (s : Run) (table : List ℕ) → IterateCall s table (iterateRepl
 iterate-call s table =
     IterateCall.call ([], tt) (s, (lent table, tt)) (iterateReply s table) (s, (lent table, tt)) refl
 
-why-call : (s : Run) (asked listed : ℕ) → WhyCall s asked listed (whyReply s asked listed)
+pub why-call : (s : Run) (asked listed : ℕ) → WhyCall s asked listed (whyReply s asked listed)
 why-call s asked listed =
     WhyCall.call tt (s, (asked, (listed, tt))) (whyReply s asked listed) (s, (asked, (listed, tt))) refl
 

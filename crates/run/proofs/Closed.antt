@@ -24,7 +24,6 @@ use Rattle.counting.proofs.Bools.{
   or-none,
   or-true-left,
   cond-true,
-  cond-false,
 }
 use Rattle.counting.proofs.Count.{none-any, any-none}
 use Rattle.counting.proofs.Sets.{setOf-lt, member-above, member-empty}
@@ -41,10 +40,8 @@ use Rattle.run.specs.Iteration.{
   newList,
   noReason,
   reasonAt,
-  joined,
   joinsNow,
   reasonNow,
-  newReason,
   nextRun,
 }
 use Rattle.run.specs.State.{
@@ -76,11 +73,13 @@ use Rattle.run.proofs.Kept.{
   new-row-not-zero,
   start-reason,
   next-listed,
-  next-reason,
   entry-member,
   joins-is,
+  reason-stays,
+  reason-joins,
+  joins-listed,
 }
-use Rattle.run.proofs.Accepted.{is-accepted, is-start-accepted, rows-not-zero, not-zero-rows}
+use Rattle.run.proofs.Accepted.{is-accepted, is-start-accepted, rows-not-zero, not-zero-rows, not-over}
 
 -- refusal 14: what a place must hold
 good-place : (s : Run) (k : ℕ) → (SoundBox (s .n) (s .faulty) k → getD (s .lists) k 0 < 2 ^ s .n) →
@@ -104,7 +103,7 @@ listed-member s i k h = h
 
 -- who may be on a list of a legal state: a box of the n on that of a sound box
 module _ (s : Run) (legal : Legal s) (i k : ℕ) (li : i < 13) (listed : listedBy s i k ≡ true) where
-  pub listing-box : SoundBox (s .n) (s .faulty) i
+  listing-box : SoundBox (s .n) (s .faulty) i
   unfolding listedBy
   listing-box = box-is (s .n) (s .faulty) i (go (ltb i (s .n) && sound (s .faulty) i) refl)
     where
@@ -114,7 +113,7 @@ module _ (s : Run) (legal : Legal s) (i k : ℕ) (li : i < 13) (listed : listedB
           let zero = no-list s (legal .pass14-places) i li e in
           never listed (subst (λ (l : ℕ). member l k ≡ false) (sym zero) (member-empty k))
 
-  pub listed-one : k < s .n
+  listed-one : k < s .n
   unfolding listedBy
   listed-one = ltb-true k (s .n) (go (ltb k (s .n)) refl)
     where
@@ -169,29 +168,12 @@ module _ (s : Run) (table : List ℕ) (legal : Legal s) where
         messages-bound (s .n) (s .t) (s .faulty) (s .rows) (s .lists) table,
       ))
 
-  -- a box that was listed is so still, and keeps its reason
+  -- a box that was listed is so still
   pub stays-listed : (i k : ℕ) → i < 13 → listedBy s i k ≡ true → listedBy (nextRun s table) i k ≡ true
   stays-listed i k li h =
       let b = listing-box s legal i k li h in
       let l = listed-one s legal i k li h in
       next-listed s table i k li ∙ entry-member s table i k b l ∙ or-true-left _ (listed-member s i k h)
-
-  pub reason-stays : (i k : ℕ) → i < 13 → k < 13 → joinsNow s table i k ≡ false →
-      reasonAt (nextRun s table) i k ≡ reasonAt s i k
-  unfolding newReason
-  reason-stays i k li lk h = next-reason s table i k li lk ∙ cond-false (reasonNow s table i k) (reasonAt s i k) h
-
-  pub reason-joins : (i k : ℕ) → i < 13 → k < 13 → joinsNow s table i k ≡ true →
-      reasonAt (nextRun s table) i k ≡ reasonNow s table i k
-  unfolding newReason
-  reason-joins i k li lk h = next-reason s table i k li lk ∙ cond-true (reasonNow s table i k) (reasonAt s i k) h
-
-  -- who joins is on the new list, and was not on the old one
-  pub joins-listed : (i k : ℕ) → i < 13 → joinsNow s table i k ≡
-      (listedBy (nextRun s table) i k && not (listedBy s i k))
-  unfolding joinsNow joined listedBy
-  joins-listed i k li =
-      ap (λ (new : Bool). new && not (member (getD (s .lists) i 0) k)) (sym (next-listed s table i k li))
 
   -- the reason of a box that joins is whole
   now-whole : (i k : ℕ) → joinsNow s table i k ≡ true → Listing (s .t) (s .done + 1) (reasonNow s table i k)
@@ -211,7 +193,7 @@ module _ (s : Run) (table : List ℕ) (legal : Legal s) where
   next-good i k li lk true true e f =
       let l = legal-listing s legal i k li lk e in
       let new = listedBy (nextRun s table) i k in
-      let stays = reason-stays i k li lk (joins-listed i k li ∙ and-false-right new (not-of-true e)) in
+      let stays = reason-stays s table i k li lk (joins-listed s table i k li ∙ and-false-right new (not-of-true e)) in
       let r = reasonAt s i k in
       subst (λ (r : Reason). badReason (s .t) (s .done + 1) true r ≡ false) (sym stays)
       (good-listed (s .t) (s .done + 1) r
@@ -223,11 +205,11 @@ module _ (s : Run) (table : List ℕ) (legal : Legal s) where
       }))
   next-good i k li lk true false e f = never (stays-listed i k li e) f
   next-good i k li lk false true e f =
-      let now = joins-listed i k li ∙ both f (not-of-false e) in
-      subst (λ (r : Reason). badReason (s .t) (s .done + 1) true r ≡ false) (sym (reason-joins i k li lk now))
+      let now = joins-listed s table i k li ∙ both f (not-of-false e) in
+      subst (λ (r : Reason). badReason (s .t) (s .done + 1) true r ≡ false) (sym (reason-joins s table i k li lk now))
       (good-listed (s .t) (s .done + 1) (reasonNow s table i k) (now-whole i k now))
   next-good i k li lk false false e f =
-      let stays = reason-stays i k li lk (joins-listed i k li ∙ not-both (not (listedBy s i k)) f) in
+      let stays = reason-stays s table i k li lk (joins-listed s table i k li ∙ not-both (not (listedBy s i k)) f) in
       subst (λ (r : Reason). badReason (s .t) (s .done + 1) false r ≡ false)
       (sym (stays ∙ legal-none s legal i k li lk e)) (none-good (s .t) (s .done + 1))
 
@@ -236,9 +218,9 @@ module _ (s : Run) (table : List ℕ) (legal : Legal s) where
   next-reasons =
       none-any 13 _ (λ i li. none-any 13 _ (λ k lk. next-good i k li lk _ _ refl refl))
 
-  pub next-legal : Legal (nextRun s table)
+  pub next-legal : s .done ≤ s .t → Legal (nextRun s table)
   unfolding nextRun
-  next-legal =
+  next-legal few =
       record {
         pass4 = legal .pass4;
         pass5 = legal .pass5;
@@ -249,6 +231,7 @@ module _ (s : Run) (table : List ℕ) (legal : Legal s) where
             (λ k l. good-place (nextRun s table) k (next-within k) (next-unused s table k l));
         pass14-sent = next-sent;
         pass14-reasons = next-reasons;
+        pass14-done = not-over (nextRun s table) (omega (arith, few));
       }
 
 -- the state after a start that was not refused
@@ -288,6 +271,7 @@ module _ (n t faulty : ℕ) (rows : List ℕ) (a : Startable n t faulty rows) wh
             (λ e. (start-unused n t faulty rows k l e, start-list n t faulty rows k l)));
         pass14-sent = le-ltb (0 * messageLimit n) 0 (omega arith);
         pass14-reasons = start-reasons;
+        pass14-done = not-over (startRun n t faulty rows) (omega arith);
       }
 
 -- the replies
@@ -302,4 +286,4 @@ pub closed-iterate : (s : Run) (table : List ℕ) → iterateReply s table .refu
 unfolding iterateReply
 closed-iterate s table e =
     subst Legal (sym (cond-true (nextRun s table) s (eq-eqb (iterateRefusal s table) 0 e)))
-    (next-legal s table (is-accepted s table e .legal))
+    (let a = is-accepted s table e in next-legal s table (a .legal) (a .done-few))

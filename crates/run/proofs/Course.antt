@@ -25,16 +25,16 @@ pub record Reached (n t faulty m : ℕ) (s : Run) : Type 0 where
   pub done-m : s .done ≡ m
   pub legal : Legal s
 
-next-reached : {n t faulty m : ℕ} {s : Run} (table : List ℕ) → Reached n t faulty m s →
+next-reached : {n t faulty m : ℕ} {s : Run} (table : List ℕ) → m ≤ t → Reached n t faulty m s →
     Reached n t faulty (suc m) (nextRun s table)
 unfolding nextRun
-next-reached {s = s} table h =
+next-reached {s = s} table l h =
     record {
       same-n = h .same-n;
       same-t = h .same-t;
       same-faulty = h .same-faulty;
       done-m = add-one (s .done) ∙ ap suc (h .done-m);
-      legal = next-legal s table (h .legal);
+      legal = next-legal s table (h .legal) (omega (arith, l, h .done-m, h .same-t));
     }
 
 start-reached : {n t faulty : ℕ} {rows : List ℕ} → Startable n t faulty rows →
@@ -84,7 +84,8 @@ module _ (n t faulty : ℕ) (rows : List ℕ) (tables : ℕ → List ℕ) (last 
   reached zero h = subst (Reached n t faulty 0) (sym (start-run starts)) (start-reached starts)
   reached (suc m) h =
       let before = reached m (omega arith) in
-      subst (Reached n t faulty (suc m)) (sym (goes-on m h before)) (next-reached (tables m) before)
+      subst (Reached n t faulty (suc m)) (sym (goes-on m h before))
+      (next-reached (tables m) (omega (arith, h, most)) before)
 
   -- each iteration gives the next state
   pub next-state : (m : ℕ) → m < last → state (suc m) ≡ nextRun (state m) (tables m)

@@ -17,9 +17,7 @@ use Rattle.counting.specs.Sets.{member}
 use Rattle.counting.proofs.Bools.{
   either,
   never,
-  and-left,
   and-right,
-  not-true,
   not-both,
   or-true-left,
   cond-true,
@@ -48,6 +46,7 @@ use Rattle.run.specs.Iteration.{
   reasonAt,
   joined,
   joinsNow,
+  reasonNow,
   newReason,
   nextRun,
 }
@@ -162,10 +161,10 @@ module _ (s : Run) (table : List ℕ) where
   next-reason i k li lk = reason-of (newReason s table) i k li lk
 
   -- nobody is on the list of a place without a sound box, and no box at n or above is on any
-  unlisted : (i k : ℕ) → (SoundBox (s .n) (s .faulty) i → ⊥) →
+  off-list : (i k : ℕ) → (SoundBox (s .n) (s .faulty) i → ⊥) →
       member (entry (s .n) (s .faulty) (newList s table) i) k ≡ false
   unfolding entry
-  unlisted i k h =
+  off-list i k h =
       ap (λ (list : ℕ). member list k) (cond-false (newList s table i) 0 (no-box (s .n) (s .faulty) i h))
       ∙ member-empty k
 
@@ -205,17 +204,33 @@ module _ (s : Run) (table : List ℕ) where
 
   pub joins-none : (i k : ℕ) → (SoundBox (s .n) (s .faulty) i → ⊥) → joinsNow s table i k ≡ false
   unfolding joinsNow joined
-  joins-none i k h = not-both (not (member (getD (s .lists) i 0) k)) (unlisted i k h)
+  joins-none i k h = not-both (not (member (getD (s .lists) i 0) k)) (off-list i k h)
 
   pub joins-above : (i k : ℕ) → s .n ≤ k → joinsNow s table i k ≡ false
   unfolding joinsNow joined
   joins-above i k h = not-both (not (member (getD (s .lists) i 0) k)) (above i k h)
 
+  pub reason-stays : (i k : ℕ) → i < 13 → k < 13 → joinsNow s table i k ≡ false →
+      reasonAt (nextRun s table) i k ≡ reasonAt s i k
+  unfolding newReason
+  reason-stays i k li lk h = next-reason i k li lk ∙ cond-false (reasonNow s table i k) (reasonAt s i k) h
+
+  pub reason-joins : (i k : ℕ) → i < 13 → k < 13 → joinsNow s table i k ≡ true →
+      reasonAt (nextRun s table) i k ≡ reasonNow s table i k
+  unfolding newReason
+  reason-joins i k li lk h = next-reason i k li lk ∙ cond-true (reasonNow s table i k) (reasonAt s i k) h
+
+  -- who joins is on the new list, and was not on the old one
+  pub joins-listed : (i k : ℕ) → i < 13 → joinsNow s table i k ≡
+      (listedBy (nextRun s table) i k && not (listedBy s i k))
+  unfolding joinsNow joined listedBy
+  joins-listed i k li =
+      ap (λ (new : Bool). new && not (member (getD (s .lists) i 0) k)) (sym (next-listed i k li))
+
   -- a box that joins: whose list it is, and what was found
   pub record Joins (i k : ℕ) : Type 0 where
     pub of-box : SoundBox (s .n) (s .faulty) i
     pub is-one : k < s .n
-    pub not-yet : member (getD (s .lists) i 0) k ≡ false
     pub unsure : confidence (s .n) (s .t) (s .faulty) (s .rows) (s .lists) table i k < 2
 
   pub joins-is : (i k : ℕ) → joinsNow s table i k ≡ true → Joins i k
@@ -228,7 +243,6 @@ module _ (s : Run) (table : List ℕ) where
       record {
         of-box = b;
         is-one = l;
-        not-yet = not-true old (and-left (not old) (ltb sure 2) both);
         unsure = ltb-true sure 2 (and-right (not old) (ltb sure 2) both);
       }
     where

@@ -16,7 +16,7 @@ use Rattle.tally.specs.Tally.{confidenceAt}
 use Rattle.tally.proofs.Laws.{fits}
 use Rattle.run.specs.declared.Reason.{Reason}
 use Rattle.run.specs.Iteration.{noReason, reasonFrom, reasonIn, reasonsOf}
-use Rattle.run.specs.State.{kept, unsaid, unlisted, notYetDone, tooSure, unfit, badReason}
+use Rattle.run.specs.State.{kept, withoutIteration, unlisted, notYetDone, confidenceAbove1, unfit, badReason}
 
 -- a place and its two boxes
 pub place-box : (i : ℕ) {k : ℕ} → k < 13 → (13 * i + k) / 13 ≡ i
@@ -57,16 +57,16 @@ pub record Listing (t done : ℕ) (r : Reason) : Type 0 where
 module _ (t done : ℕ) (r : Reason) where
   -- the five tests, one after another
   abbrev missing : Bool
-  missing = unsaid true r || unlisted true r
+  missing = withoutIteration true r || unlisted true r
 
   abbrev early : Bool
   early = missing || notYetDone done r
 
   abbrev sure : Bool
-  sure = early || tooSure r
+  sure = early || confidenceAbove1 r
 
   pub good-listed : Listing t done r → badReason t done true r ≡ false
-  unfolding badReason unsaid unlisted notYetDone tooSure unfit
+  unfolding badReason withoutIteration unlisted notYetDone confidenceAbove1 unfit
   good-listed l =
       or-none
       (or-none
@@ -76,16 +76,16 @@ module _ (t done : ℕ) (r : Reason) where
       (not-of-true (eq-eqb (confidenceAt t (r .support)) (r .confidence) (l .fitting)))
 
   pub listed-good : badReason t done true r ≡ false → Listing t done r
-  unfolding badReason unsaid unlisted notYetDone tooSure unfit
+  unfolding badReason withoutIteration unlisted notYetDone confidenceAbove1 unfit
   listed-good h =
       let h3 = or-false-left sure (unfit t r) h in
-      let h2 = or-false-left early (tooSure r) h3 in
+      let h2 = or-false-left early (confidenceAbove1 r) h3 in
       let h1 = or-false-left missing (notYetDone done r) h2 in
       let some = eqb-false (r .iteration) 0 (or-false-left (eqb (r .iteration) 0) false h1) in
       record {
         from-1 = omega (arith, some);
         is-done = ltb-false done (r .iteration) (or-false-right missing (notYetDone done r) h2);
-        at-most-1 = ltb-false 1 (r .confidence) (or-false-right early (tooSure r) h3);
+        at-most-1 = ltb-false 1 (r .confidence) (or-false-right early (confidenceAbove1 r) h3);
         fitting =
             eqb-true (confidenceAt t (r .support)) (r .confidence)
             (not-false (eqb (confidenceAt t (r .support)) (r .confidence)) (or-false-right sure (unfit t r) h));
@@ -93,23 +93,23 @@ module _ (t done : ℕ) (r : Reason) where
 
   -- which test it is that holds
   pub bad-unsaid : r .iteration ≡ 0 → badReason t done true r ≡ true
-  unfolding badReason unsaid unlisted
+  unfolding badReason withoutIteration unlisted
   bad-unsaid e = rw (eq-eqb (r .iteration) 0 e) refl
 
   module _ (some : r .iteration ≡ 0 → ⊥) where
     pub bad-early : done < r .iteration → badReason t done true r ≡ true
-    unfolding badReason unsaid unlisted notYetDone
+    unfolding badReason withoutIteration unlisted notYetDone
     bad-early h = rw (ne-eqb (r .iteration) 0 some, lt-ltb done (r .iteration) h) refl
 
     module _ (is-done : r .iteration ≤ done) where
       pub bad-sure : 1 < r .confidence → badReason t done true r ≡ true
-      unfolding badReason unsaid unlisted notYetDone tooSure
+      unfolding badReason withoutIteration unlisted notYetDone confidenceAbove1
       bad-sure h =
           rw (ne-eqb (r .iteration) 0 some, le-ltb done (r .iteration) is-done, lt-ltb 1 (r .confidence) h) refl
 
       pub bad-by-fit : r .confidence ≤ 1 →
           not (eqb (confidenceAt t (r .support)) (r .confidence)) ≡ badReason t done true r
-      unfolding badReason unsaid unlisted notYetDone tooSure unfit
+      unfolding badReason withoutIteration unlisted notYetDone confidenceAbove1 unfit
       bad-by-fit h =
           rw (ne-eqb (r .iteration) 0 some, le-ltb done (r .iteration) is-done, le-ltb 1 (r .confidence) h) refl
 
@@ -132,10 +132,10 @@ module _ (t done : ℕ) (r : Reason) where
       none m h = eqb-true m 0 (not-false (eqb m 0) h)
 
   pub unlisted-none : badReason t done false r ≡ false → r ≡ noReason
-  unfolding badReason unsaid unlisted
+  unfolding badReason withoutIteration unlisted
   unlisted-none h =
-      let h3 = or-false-left (kept r || notYetDone done r || tooSure r) (unfit t r) h in
-      let h2 = or-false-left (kept r || notYetDone done r) (tooSure r) h3 in
+      let h3 = or-false-left (kept r || notYetDone done r || confidenceAbove1 r) (unfit t r) h in
+      let h2 = or-false-left (kept r || notYetDone done r) (confidenceAbove1 r) h3 in
       nothing-kept (or-false-left (kept r) (notYetDone done r) h2)
 
   -- what is kept of a box that is listed is something
@@ -144,7 +144,7 @@ module _ (t done : ℕ) (r : Reason) where
   listing-kept l = rw (ne-eqb (r .iteration) 0 (λ e. absurd (omega (arith, e, l .from-1)))) refl
 
 pub none-good : (t done : ℕ) → badReason t done false noReason ≡ false
-unfolding badReason unsaid unlisted notYetDone tooSure unfit kept noReason
+unfolding badReason withoutIteration unlisted notYetDone confidenceAbove1 unfit kept noReason
 none-good t done =
     or-none (or-none (le-ltb done 0 (omega arith)) refl)
     (not-of-true (eq-eqb (confidenceAt t 0) 0 (fits t 0 .none .1 (omega arith))))

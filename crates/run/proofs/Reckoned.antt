@@ -20,7 +20,16 @@ use Rattle.counting.proofs.Bools.{
   not-both,
   same,
 }
-use Rattle.counting.proofs.Count.{any-some, any-none, some-any, none-any, count-add, count-ext, count-strict, count-wide}
+use Rattle.counting.proofs.Count.{
+  any-some,
+  any-none,
+  some-any,
+  none-any,
+  count-add,
+  count-ext,
+  count-strict,
+  count-wide,
+}
 use Rattle.counting.proofs.Sets.{member-empty}
 use Rattle.sizes.specs.Sizes.{sound, stray}
 use Rattle.sizes.proofs.Laws.{lt-within}
@@ -56,7 +65,8 @@ module _ (s : Run) (high : s .n ≤ 13) (good : any 13 (badPlace s) ≡ false) w
           bad-box (s .n) (s .faulty) i (getD (s .rows) i 0) (getD (s .lists) i 0) e
           ∙ any-none 13 (badPlace s) good i l
       go false e =
-          subst (λ (list : ℕ). stray (s .n) list ≡ false) (sym (no-list s good i l e)) (lt-within (s .n) 0 (pow-pos (s .n)))
+          subst (λ (list : ℕ). stray (s .n) list ≡ false) (sym (no-list s good i l e))
+          (lt-within (s .n) 0 (pow-pos (s .n)))
 
   -- behind n nobody is listed
   none-above : (i k : ℕ) → s .n ≤ i → i < 13 → listedBy s i k ≡ false
@@ -84,7 +94,8 @@ module _ (s : Run) (high : s .n ≤ 13) (good : any 13 (badPlace s) ≡ false) w
       let whole : 13 * i + 13 ≡ 13 * (i + 1) = omega arith in
       omega (arith, e, f, here, count-add (13 * i) 13 listedPlace, ap (λ (q : ℕ). count q listedPlace) whole)
 
-  pub listed-all : (i : ℕ) {listed : ℕ} → i ≡ s .n → listed ≡ count (13 * i) listedPlace → listed ≡ count 169 listedPlace
+  pub listed-all : (i : ℕ) {listed : ℕ} → i ≡ s .n → listed ≡ count (13 * i) listedPlace →
+      listed ≡ count 169 listedPlace
   listed-all i same e =
       e ∙ count-wide 169 listedPlace (omega (arith, same, high))
       (λ p h l.

@@ -20,8 +20,8 @@ use Rattle.run.specs.declared.Reason.{Reason}
 use Rattle.run.specs.declared.Reasons.{Reasons}
 use Rattle.run.specs.declared.Run.{Run}
 use Rattle.run.specs.Iteration.{joined}
-use Rattle.run.specs.State.{badReason, badState}
-use Rattle.run.specs.Why.{overdone, notAsked, noBox}
+use Rattle.run.specs.State.{badReason, badState, overdone}
+use Rattle.run.specs.Why.{notAsked, noBox}
 
 -- rows, confidences and supports are what the sound boxes found with this table
 pub record GradesOf (s : Run) (table rows confidences supports : List ℕ) : Type 0 where

@@ -5,7 +5,7 @@ use mathlib.Core.Bool.{false}
 use Rattle.counting.specs.Count.{any}
 use Rattle.sizes.specs.Sizes.{outside, tooMany, stray, soundZero}
 use Rattle.run.specs.declared.Run.{Run}
-use Rattle.run.specs.State.{badPlace, tooManySent, badReasons}
+use Rattle.run.specs.State.{badPlace, tooManySent, badReasons, overdone}
 
 -- none of the tests of the state itself holds
 pub record Legal (s : Run) : Type 0 where
@@ -16,3 +16,4 @@ pub record Legal (s : Run) : Type 0 where
   pub pass14-places : any 13 (badPlace s) ≡ false
   pub pass14-sent : tooManySent s ≡ false
   pub pass14-reasons : any 13 (badReasons s) ≡ false
+  pub pass14-done : overdone s ≡ false

@@ -1,5 +1,5 @@
 -- The start, the iteration with its refusals, and a run of several tables.
-use Prim.Native.Nat.{ℕ, zero, suc, _*_}
+use Prim.Native.Nat.{ℕ, zero, suc, _+_, _*_}
 use mathlib.Core.Bool.{Bool, cond, not, _&&_, _||_}
 use mathlib.Core.List.{List, [], _∷_}
 use lib.Dec.{eqb, ltb}
@@ -93,8 +93,8 @@ unfoldable pub kept : Reason → Bool
 kept r = not (eqb (r .iteration) 0) || not (eqb (r .confidence) 0) || not (eqb (r .support) 0)
 
 -- refusal 14: a listing without its iteration
-unfoldable pub unsaid : Bool → Reason → Bool
-unsaid listed r = listed && eqb (r .iteration) 0
+unfoldable pub withoutIteration : Bool → Reason → Bool
+withoutIteration listed r = listed && eqb (r .iteration) 0
 
 -- refusal 14: anything kept without a listing
 unfoldable pub unlisted : Bool → Reason → Bool
@@ -105,17 +105,18 @@ unfoldable pub notYetDone : ℕ → Reason → Bool
 notYetDone done r = ltb done (r .iteration)
 
 -- refusal 14: a confidence above 1
-unfoldable pub tooSure : Reason → Bool
-tooSure r = ltb 1 (r .confidence)
+unfoldable pub confidenceAbove1 : Reason → Bool
+confidenceAbove1 r = ltb 1 (r .confidence)
 
--- refusal 14: a support that does not fit the confidence. 0 takes at most t, 1 more than t and less than 2t + 1
+-- refusal 14: a support that does not fit the confidence. 0 takes at most t, 1 more than t and less than 2t + 1; what
+-- fits 2 does not matter, for that is above 1
 unfoldable pub unfit : ℕ → Reason → Bool
 unfit t r = not (eqb (confidenceAt t (r .support)) (r .confidence))
 
 -- refusal 14 of a reason
 unfoldable pub badReason : ℕ → ℕ → Bool → Reason → Bool
 badReason t done listed r =
-    unsaid listed r || unlisted listed r || notYetDone done r || tooSure r || unfit t r
+    withoutIteration listed r || unlisted listed r || notYetDone done r || confidenceAbove1 r || unfit t r
 
 -- refusal 14 of the reasons of box i
 unfoldable pub badReasons : Run → ℕ → Bool
@@ -124,6 +125,10 @@ badReasons s i = any 13 (λ k. badReason (s .t) (s .done) (listedBy s i k) (reas
 -- refusal 14 of a state
 unfoldable pub badState : Run → Bool
 badState s = any 13 (badPlace s) || tooManySent s || any 13 (badReasons s)
+
+-- refusal 14 of a state, for every call but the iteration: more iterations are done than may be run
+unfoldable pub overdone : Run → Bool
+overdone s = ltb (s .t + 1) (s .done)
 
 -- the refusals of an iteration: 4, 5, 6, 9, 11, 12, 14
 unfoldable pub iterateRefusal : Run → List ℕ → ℕ

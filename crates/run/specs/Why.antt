@@ -1,5 +1,5 @@
 -- The call that says why a box is on a list, with its refusals. Box numbers count from 1 here, as in what people read.
-use Prim.Native.Nat.{ℕ, _+_, _-_}
+use Prim.Native.Nat.{ℕ, _-_}
 use mathlib.Core.Bool.{Bool, cond, _||_}
 use mathlib.Core.List.{[], _∷_}
 use lib.Dec.{eqb, ltb}
@@ -10,11 +10,7 @@ use Rattle.sizes.specs.Sizes.{outside, tooMany, stray, soundZero}
 use Rattle.run.specs.declared.Run.{Run}
 use Rattle.run.specs.declared.Why.{Why}
 use Rattle.run.specs.Iteration.{noReason, reasonAt}
-use Rattle.run.specs.State.{badState}
-
--- more iterations are done than may be run
-unfoldable pub overdone : Run → Bool
-overdone s = ltb (s .t + 1) (s .done)
+use Rattle.run.specs.State.{overdone, badState}
 
 -- a box number outside 1 to n
 unfoldable pub noBox : ℕ → ℕ → Bool

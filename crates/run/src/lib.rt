@@ -1,4 +1,5 @@
-// The run state, its start, one iteration, and why a box is on a list. Boxes and leaders count from 0.
+// The run state, its start, one iteration, and why a box is on a list. Boxes and leaders count from 0, but for the
+// numbers that a question names, which count from 1.
 ghost use mathlib.Core.Path.{_≡_};
 ghost use mathlib.Core.Bool.{true, false, cond, not, _||_, _&&_};
 ghost use Prim.Native.Nat.{_+_, _-_, _*_, _≤_, _<_};
@@ -83,7 +84,7 @@ pub struct Why {
     pub reason: Reason,
 }
 
-// Refusals 4, 5 and 6, which a start and an iteration share.
+// Refusals 4, 5 and 6, which a start, an iteration and a question share.
 fn setting_refusal(n: u8, t: u8, faulty: u16) -> u8
     ensures { λ r. ⌜ r ≡ settingRefusal n t faulty ⌝ }
 {
@@ -523,7 +524,7 @@ fn joins(old: u16, k: usize, confidence: u8) -> bool
     }
 }
 
-// The bit where the leader joins, else 0.
+// The bit where the test holds, else 0.
 fn bit_if(is: bool, bit: u16) -> u16
     ensures { λ r. ⌜ r ≡ cond is bit 0 ⌝ }
 {
@@ -692,7 +693,8 @@ fn keep_reasons<'a, 'b>(
     }
 }
 
-// Step 5: the reasons after the iteration.
+// Step 5: the reasons after the iteration. That each part has 169 places is said for the caller, which cannot see it
+// of a field of a field.
 fn step5_reasons<'b>(
     j: Joining,
     confidences: &'b [u8],

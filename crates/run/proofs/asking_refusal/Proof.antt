@@ -8,8 +8,8 @@ use Rattle.counting.proofs.Bools.{or-none, or-true-left, or-true-right}
 use Rattle.counting.proofs.Refuse.{refused, passed, none-left}
 use Rattle.run.specs.declared.Run.{Run}
 use Rattle.run.specs.Inside.{askingRefusal}
-use Rattle.run.specs.State.{badState}
-use Rattle.run.specs.Why.{overdone, notAsked}
+use Rattle.run.specs.State.{badState, overdone}
+use Rattle.run.specs.Why.{notAsked}
 use borrow.Author.Needs.{needs}
 use Rattle.run.proofs.asking_refusal.Statement.{statement}
 use Rattle.run.proofs.asking_refusal.Tie as tie
