@@ -338,8 +338,9 @@ SHOWN = [*(f"{fault}, in a sound box's place" for fault in FAULTS), *(f"{fault} 
          "one box lists a box and another does not", "more than t faulty boxes"]
 
 
-def run_requests(rng, run, many):
-    """Every iteration of a run; why for so many pairs in its last state, and for some pairs in the states before."""
+def run_requests(rng, run):
+    """Every iteration of a run; why for every pair in its last state, and for every pair, or some where n is large, in
+    the states before."""
     state = started(run)
     for table in run.tables:
         before = state
@@ -347,7 +348,8 @@ def run_requests(rng, run, many):
         shows = {(GROUP, name) for name in (*names_of(before, state, cast), *names_between_boxes(state))}
         yield iteration_request(before, table.rows, "iteration of a run", shows)
         pairs = list(product(range(1, run.n + 1), repeat=2))
-        for asked, listed in rng.sample(pairs, min(many if state.done > run.t else 4, len(pairs))):
+        all_of = state.done > run.t or run.n <= 7
+        for asked, listed in pairs if all_of else rng.sample(pairs, 4):
             yield why_request(state, asked, listed, "why, of a run")
 
 
@@ -369,20 +371,20 @@ def noisy(rng, n):
 
 
 def lively_runs(rng):
-    """For every n liars that keep to the limit and liars that do not, and every pair of boxes; then liars that part the
-    sound boxes, and noise, and some pairs."""
+    """For every n liars near the thresholds that keep to the limit and that do not; noise; and liars that part the sound
+    boxes."""
     for n in range(1, PLACES + 1):
         t = largest_t(n)
-        yield many_liars(rng, n, t), n * n
-        yield many_liars(rng, n, min(t + 1, n - 1)), n * n
-        yield noisy(rng, n), 2 * n
+        yield many_liars(rng, n, t)
+        yield many_liars(rng, n, min(t + 1, n - 1))
+        yield noisy(rng, n)
         if t:
-            yield runfiles.split(rng, n), 2 * n
+            yield runfiles.split(rng, n)
 
 
 def runs(rng):
-    for run, many in lively_runs(rng):
-        yield from run_requests(rng, run, many)
+    for run in lively_runs(rng):
+        yield from run_requests(rng, run)
 
 
 def all_edges(rng):
