@@ -407,8 +407,8 @@ enum refusal steps(uint64_t n, const struct state *from, const uint64_t *table, 
     return FINE;
 }
 
-/* Leader k comes on the list of box i, and the reason is kept: the iteration is the one after those done. A leader that
-   was on the list before keeps the reason that it has. */
+/* Leader k comes on the list of box i, and the reason is kept: the iteration is the one after those done. A leader
+   that was on the list before keeps the reason that it has. */
 static void join(struct state *next, unsigned i, unsigned k, const struct cast *cast)
 {
     size_t found = (size_t)i * next->n + k;

@@ -1,7 +1,7 @@
 """Requests from seeds, in the format of docs/REQUESTS.md: all calls, and the edges of kinds 1 to 7.
 
-One proved program answers kinds 1 to 20, 34 and 35, another one kinds 21 to 33, 36 and 37. So a stream has kinds of one
-group alone.
+One proved program answers kinds 1 to 20, 34 and 35, another one kinds 21 to 33, 36 and 37. So a stream has kinds of
+one group alone.
 """
 
 import struct

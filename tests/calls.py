@@ -15,8 +15,8 @@ from steprules import PLACES, graded, size_refusal, voted
 class Request:
     """The bytes of one request, what it is for, and what is known of its reply beforehand, if anything.
 
-    With `as_before` the reply must be that of the request before it. `shows` has what arises in it, each as the name of
-    a group of such things and its own name.
+    With `as_before` the reply must be that of the request before it. `shows` has what arises in it, each as the name
+    of a group of such things and its own name.
     """
 
     def __init__(self, data, about, refusal=None, reply=None, as_before=False, shows=()):

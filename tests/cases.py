@@ -151,14 +151,14 @@ def joining():
     later = kept({(1, 4): (2, 0, 1), (2, 4): (2, 1, 2), (3, 4): (2, 0, 1)})
     yield (iteration(4, 1, 8, 1, 0, [10, 20, 30], [], case_s_table()),
            state_line("iteration", 0, 4, 1, 8, 2, 75, [10, 20, 10], [8, 8, 8], later))
-    # The same, but box 2 listed box 4 before, with support 0. It hears of box 4 from boxes 1 and 3 alone, of whom box 1
-    # sends 20 and box 3 sends 99, and in step 3 from box 1, if that has a vote. Box 1 still hears 20, 0, 99, 20 about
-    # box 4, which is no vote now. So boxes 1 and 3 find support 0. Messages: 9, then 4 + 3 + 4 rows, then 3 each, to 3.
+    # The same, but box 2 listed box 4 before, with support 0. It hears of box 4 from boxes 1 and 3 alone, of whom box
+    # 1 sends 20 and box 3 sends 99, and in step 3 from box 1, if that has a vote. Box 1 hears 20, 0, 99, 20 about
+    # box 4, which is no vote now. So boxes 1 and 3 find support 0. Messages: 9; 4 + 3 + 4 rows and 3 each, to 3.
     before, after = kept({(2, 4): (1, 0, 0)}), kept({(1, 4): (2, 0, 0), (2, 4): (1, 0, 0), (3, 4): (2, 0, 0)})
     yield (iteration(4, 1, 8, 1, 0, [10, 20, 30], [0, 8], case_s_table(), before),
            state_line("iteration", 0, 4, 1, 8, 2, 69, [10, 10, 10], [8, 8, 8], after))
     # n = 7, t = 2, boxes 6 and 7 faulty. All sound boxes list box 7 already, two of them with confidence 1. Box 6 is
-    # silent and joins. Five boxes send to six others: one row, and five each in steps 2 and 3. All take the lowest row.
+    # silent and joins. Five boxes send to six others: one row, then five in steps 2 and 3. All take the lowest row.
     rows, reasons = [10, 20, 30, 40, 50], {1: (1, 0, 2), 2: (1, 1, 3), 3: (1, 1, 4), 4: (1, 0, 0), 5: (1, 0, 1)}
     before = kept({(i, 7): reason for i, reason in reasons.items()})
     after = kept({(i, 6): (2, 0, 0) for i in reasons}) | before
@@ -411,7 +411,8 @@ def box_numbers():
                       (b"000000000000000000255", "0 0"), (b"00000000000000000256", "1 256"),
                       (b"18446744073709551615", "1 256"), (b"18446744073709551616", "1 256"),
                       (b"18446744073709551620", "1 256"), (b"99999999999999999999", "1 256"),
-                      (b"100000000000000000000", "0 0"), (b"-1", "0 0"), (b"+1", "0 0"), (b" 1", "0 0"), (b"1 ", "0 0"),
+                      (b"100000000000000000000", "0 0"), (b"-1", "0 0"), (b"+1", "0 0"), (b" 1", "0 0"),
+                       (b"1 ", "0 0"),
                       (b"1\n", "0 0"), (b"1\0", "0 0"), (b"/", "0 0"), (b":", "0 0"), (b"1/", "0 0"), (b"1:2", "0 0"),
                       (b"\xb0", "0 0"), (b"1\xb1", "0 0"), (b"1.0", "0 0"), (b"x", "0 0"), (b"1" * 5000, "0 0")):
         yield struct.pack(">BH", 36, len(text)) + text, f"number {due}"
@@ -464,8 +465,8 @@ def answers():
 
 
 def late_file():
-    """Rows 10, 10, 10. In the first iteration box 4 says 10 of all leaders to all, so that all have confidence 2 in all
-    and hold 10. Then it speaks for itself alone, as in case S, where what is heard about it does not depend on the
+    """Rows 10, 10, 10. In the first iteration box 4 says 10 of all leaders to all, so that all have confidence 2 in
+    all and hold 10. Then it speaks for itself alone, as in case S, where what is heard about it does not depend on the
     other boxes' rows."""
     first = Table(4)
     for receiver in range(4):

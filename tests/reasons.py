@@ -117,7 +117,8 @@ def places_named(state, name):
     sound, n = state.sound(), state.n
     boxes = {"a faulty box's place": [i for i in range(n) if i not in sound],
              "an unused box's place": range(n, PLACES)}.get(name, sound)
-    leaders = {"an unused box's place": range(PLACES), "an unused leader's place": range(n, PLACES)}.get(name, range(n))
+    leaders = {"an unused box's place": range(PLACES), "an unused leader's place": range(n, PLACES)}
+    leaders = leaders.get(name, range(n))
     return list(product(boxes, leaders))
 
 
@@ -275,7 +276,8 @@ def box_numbers(rng):
             yield why_request(state, 1 + k, 1 + k, "why, the same box twice")
             yield why_request(state, 1 + k, good, "why, any box asked")
             yield why_request(state, good, 1 + k, "why, any box that may be listed")
-    state = State(4, 1, 2, 2, 0, [5, 0, 6, 7], [10, 0, 2, 0], {(0, 1): (1, 0, 1), (0, 3): (2, 1, 2), (2, 1): (1, 1, 2)})
+    state = State(4, 1, 2, 2, 0, [5, 0, 6, 7], [10, 0, 2, 0],
+                  {(0, 1): (1, 0, 1), (0, 3): (2, 1, 2), (2, 1): (1, 1, 2)})
     for asked, listed in product((*range(1, 5), *odd_numbers(4)), repeat=2):
         yield why_request(state, asked, listed, "why, any two numbers")
 
@@ -371,8 +373,8 @@ def noisy(rng, n):
 
 
 def lively_runs(rng):
-    """For every n liars near the thresholds that keep to the limit and that do not; noise; and liars that part the sound
-    boxes."""
+    """For every n liars near the thresholds that keep to the limit and that do not; noise; and liars that part the
+    sound boxes."""
     for n in range(1, PLACES + 1):
         t = largest_t(n)
         yield many_liars(rng, n, t)

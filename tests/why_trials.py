@@ -190,7 +190,8 @@ NUMBERS = (
     ("the byte behind 9 is a digit", "why.c", "bytes[i] > '9'", "bytes[i] > ':'"),
     ("a digit has 7 bits", "why.c", DIGITS,
      "if ((bytes[i] & 127) < '0' || (bytes[i] & 127) > '9')\n            return 0;"),
-    ("a number may have a sign", "why.c", DIGITS, "if (i == 0 && count > 1 && bytes[0] == '+')\n            continue;\n"
+    ("a number may have a sign", "why.c", DIGITS,
+     "if (i == 0 && count > 1 && bytes[0] == '+')\n            continue;\n"
      "        " + DIGITS),
     ("a number may begin with a space", "why.c", DIGITS,
      "if (i == 0 && count > 1 && bytes[0] == ' ')\n            continue;\n        " + DIGITS),
