@@ -79,7 +79,8 @@ def number_edges():
     """Values around 255, and around what 8, 16, 32 and 64 bits hold, in front of which zeros stand or none."""
     yield from number_lengths()
     for value in (0, 1, 4, 9, 10, 13, 14, 99, 100, 199, 200, 249, 250, 254, 255, 256, 257, 260, 265, 266, 299, 300,
-                  511, 512, 999, 1000, 2550, 2559, 2560, 65535, 65536, 65537, 2**31, 2**32, 2**32 + 1, 2**32 + 4, 2**63,
+                  511, 512, 999, 1000, 2550, 2559, 2560, 65535, 65536, 65537, 2**31, 2**32, 2**32 + 1, 2**32 + 4,
+                  2**63,
                   2**63 + 1, TOP - 1, TOP, TOP + 1, TOP + 2, TOP + 5, 10**19, 10**20 - 1):
         for width in (1, 3, 10, 19, 20):
             text = b"%0*d" % (width, value)
