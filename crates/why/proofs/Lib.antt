@@ -1,3 +1,4 @@
 -- What belongs to no one function.
 pub mod Numbers
 pub mod Reasons
+pub mod Answers
