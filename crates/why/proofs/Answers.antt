@@ -4,21 +4,19 @@ use mathlib.Core.Path.{_≡_, refl, sym, ap, _∙_}
 use mathlib.Core.Bool.{Bool, true, false}
 use mathlib.Core.List.{List, _++_}
 use Prim.Native.Nat.{ℕ, _≤_, _<_}
-use native.Mathlib.Nat.{le-refl}
+use native.Mathlib.Decide.{ℕ-discrete}
 use native.Mathlib.Omega.{arith}
 use lib.Dec.{ltb}
-use lib.ListN.{length, take, drop}
-use lib.Seq.{take-all}
+use lib.ListN.{length, getD, take, drop}
 use borrow.Author.Tests.{eq-eqb, ne-eqb, lt-ltb, le-ltb, ltb-false}
 use Rattle.counting.proofs.Bools.{cond-true, cond-false}
 use Rattle.run.specs.declared.Next.{Next}
 use Rattle.run.specs.declared.Why.{Why}
 use Rattle.run.specs.Iteration.{noReason}
 use Rattle.run.specs.Why.{whyReply}
-use Rattle.lines.specs.Line.{placed}
+use Rattle.lines.specs.Line.{lineOf, placed}
 use Rattle.lines.proofs.Placed.{placed-front}
 use Rattle.listing.specs.Listing.{outcomeOf}
-use Rattle.why.specs.declared.Answered.{Answered}
 use Rattle.why.specs.Answer.{
   reasonLine,
   notListedLine,
@@ -90,15 +88,16 @@ module _ (bytes : List ℕ) (asked listed : ℕ) where
   answer-given room size ends l es ee =
       (λ i. record { refusal = 0; size = es i; ends = ee i }) ∙ sym (cond-false _ _ (le-ltb _ _ l))
 
+  pub answer-written : (slice : List ℕ) → length (answerOf bytes asked listed) ≤ length slice →
+      placed slice 0 (answerOf bytes asked listed) ≡ answerWrites bytes asked listed slice
+  unfolding answerWrites
+  answer-written slice l = sym (cond-false _ _ (le-ltb _ _ l))
+
   pub answer-copied : (text slice last : List ℕ) → text ≡ answerOf bytes asked listed →
       length (answerOf bytes asked listed) ≤ length slice →
       last ≡ take (length text) text ++ drop (length text) slice → last ≡ answerWrites bytes asked listed slice
-  unfolding answerWrites
   answer-copied text slice last e l w =
-      w
-      ∙ placed-front slice text
-      ∙ ap (placed slice 0) e
-      ∙ sym (cond-false _ _ (le-ltb _ _ l))
+      w ∙ placed-front slice text ∙ ap (placed slice 0) e ∙ answer-written slice l
 
   -- what is written lies within the slice
   pub answer-within : (room : ℕ) → answerReply bytes asked listed room .size ≤ room
@@ -109,3 +108,24 @@ module _ (bytes : List ℕ) (asked listed : ℕ) where
           answerReply bytes asked listed room .size ≤ room
       go true e = rw e (omega arith)
       go false e = rw e (ltb-false _ _ e)
+
+  -- the line is `refused` and a number exactly where that number is not 0: each other line begins with another byte
+  pub says-refused : (whyOf bytes asked listed .refusal ≡ 0 → ⊥) →
+      answerOf bytes asked listed ≡ refusedLine (whyOf bytes asked listed .refusal)
+  unfolding answerOf
+  says-refused d = line-refused (whyOf bytes asked listed) d
+
+  pub says-other : whyOf bytes asked listed .refusal ≡ 0 → (number : ℕ) →
+      answerOf bytes asked listed ≡ refusedLine number → ⊥
+  unfolding answerOf notListedLine reasonLine refusedLine lineOf
+  says-other e number same = go (ℕ-discrete (w .reason .iteration) 0)
+    where
+      w : Why
+      w = whyOf bytes asked listed
+
+      front : List ℕ → ℕ
+      front xs = getD xs 0 0
+
+      go : Dec (w .reason .iteration ≡ 0) → ⊥
+      go (yes z) = absurd (omega (arith, ap front (sym (line-not-listed w e z) ∙ same)))
+      go (no d) = absurd (omega (arith, ap front (sym (line-listed w e d) ∙ same)))

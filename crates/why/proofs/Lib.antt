@@ -2,3 +2,5 @@
 pub mod Numbers
 pub mod Reasons
 pub mod Answers
+pub mod Room
+pub mod Calls
