@@ -196,8 +196,15 @@ answer-most bytes asked listed =
     let p = of-plain bytes asked listed in
     why-short (whyOf bytes asked listed) (p .0) (p .1)
 
--- so a slice with 64 bytes is always enough
-pub answer-fits : (bytes : List ℕ) (asked listed room : ℕ) → 64 ≤ room → answerReply bytes asked listed room .refusal ≡ 0
-unfolding answerReply
-answer-fits bytes asked listed room h =
-    rw (le-ltb room (length (answerOf bytes asked listed)) (omega (arith, answer-most bytes asked listed))) refl
+-- so a slice with 64 bytes is always enough, and takes the whole line
+module _ (bytes : List ℕ) (asked listed room : ℕ) (h : 64 ≤ room) where
+  enough : ltb room (length (answerOf bytes asked listed)) ≡ false
+  enough = le-ltb room (length (answerOf bytes asked listed)) (omega (arith, answer-most bytes asked listed))
+
+  pub answer-fits : answerReply bytes asked listed room .refusal ≡ 0
+  unfolding answerReply
+  answer-fits = rw enough refl
+
+  pub answer-whole : answerReply bytes asked listed room .size ≡ length (answerOf bytes asked listed)
+  unfolding answerReply
+  answer-whole = rw enough refl
