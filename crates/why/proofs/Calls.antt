@@ -1,15 +1,19 @@
 -- What is said of calls: of every reply of `answer`, with the last contents of the slice, that meets the contract as the
 -- toolchain states it. Assumes nothing.
 use mathlib.Core.Path.{_≡_, refl, sym, ap, ap₂, _∙_}
+use mathlib.Core.Bool.{cond}
 use mathlib.Core.List.{List, []}
-use Prim.Native.Nat.{ℕ, _≤_, _<_}
+use Prim.Native.Nat.{ℕ, _≤_}
 use native.Mathlib.Omega.{arith}
 use lib.ListN.{length, take}
 use Rattle.tally.proofs.Calls.{lent}
 use Rattle.lines.proofs.Placed.{placed-found}
+use Rattle.listing.specs.File.{orElse}
+use Rattle.listing.specs.Listing.{endsWith}
 use Rattle.why.specs.declared.Answered.{Answered}
 use Rattle.why.specs.Answer.{refusedLine, whyOf, answerOf, answerReply, answerWrites}
 use Rattle.why.proofs.Answers.{answer-given, answer-written, says-refused, says-other}
+use Rattle.why.proofs.Refused.{noQuestion, refused-by}
 use Rattle.why.proofs.Room.{answer-most}
 use Rattle.why.proofs.answer.Reads as AnswerReads
 
@@ -54,6 +58,10 @@ module _ {bytes slice last : List ℕ} {asked listed : ℕ} {r : Answered} (room
       ap₂ (λ (q : Answered) (xs : List ℕ). take (q .size) xs) given
       (answer-call-is c .1 ∙ sym (answer-written bytes asked listed slice fits))
       ∙ placed-found slice (answerOf bytes asked listed)
+
+  -- the number behind `refused`: the one with which the file's listing ends, else 15 where there is no such question
+  pub answer-ends : r .ends ≡ orElse (endsWith bytes) (cond (noQuestion bytes asked listed) 15 0)
+  answer-ends = ap (λ (q : Answered). q .ends) given ∙ refused-by bytes asked listed
 
   -- the line is `refused` and a number exactly where that number is not 0
   pub wrote-refused : (r .ends ≡ 0 → ⊥) → take (r .size) last ≡ refusedLine (r .ends)

@@ -3,4 +3,5 @@ pub mod Numbers
 pub mod Reasons
 pub mod Answers
 pub mod Room
+pub mod Refused
 pub mod Calls

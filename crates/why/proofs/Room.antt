@@ -1,7 +1,7 @@
 -- How long the line that says why can be. A state that answers has a reason with iteration 5 at most, confidence 1 at
 -- most and support 8 at most, since t is 4 at most: one digit each, and 54 bytes in all. `refused` has a number below
 -- 100: 11 bytes at most, as `not listed` has. So 64 bytes are always room enough. Assumes nothing.
-use mathlib.Core.Path.{_≡_, refl, sym, ap, subst, _∙_}
+use mathlib.Core.Path.{_≡_, refl, sym, subst}
 use mathlib.Core.Bool.{Bool, true, false, cond}
 use mathlib.Core.List.{List, [], _∷_, _++_}
 use mathlib.Core.Logic.{⊎-elim}
