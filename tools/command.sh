@@ -1,11 +1,12 @@
 # What the commands at the root share. Each reads this in after it has set `top`, the repository's folder, and
-# `called`, its own name, and then sets `help`, which --help prints. Whatever fails here is one line on standard error
-# and status 2.
+# `called`, its own name, and then sets `help`, which --help prints, and `usage` where it takes more than a file.
+# Whatever fails here is one line on standard error and status 2.
 # shellcheck shell=sh
 # shellcheck disable=SC2034,SC2154
 
 newline='
 '
+usage='[FILE]'
 
 # Where standard error is closed, the next file that is opened must not take its place.
 true 3>&2 || exec 2>/dev/null
@@ -16,7 +17,7 @@ fail() {
 }
 
 wrong_usage() {
-    echo "usage: $called [FILE] | $called --help" >&2
+    echo "usage: $called $usage | $called --help" >&2
     exit 2
 }
 
@@ -41,30 +42,42 @@ check_streams() {
     { true 3>&1; } 2>/dev/null || fail "cannot write to standard output: it is closed"
 }
 
-# take_arguments ARGUMENT..: those of the command, all of which have the same ones. From here on standard input is what
-# is to be read.
-take_arguments() {
+# take_options ARGUMENT..: those of the command. All commands have the same options; from here on `options` is how many
+# of the arguments they are.
+take_options() {
+    options=0
     case ${1-} in
     --help)
         [ $# -eq 1 ] || wrong_usage
         print_text "$help"
         exit 0
         ;;
-    --) shift ;;
+    --) options=1 ;;
     -*) wrong_usage ;;
     esac
+}
+
+# take_file [FILE]: from here on standard input is what is to be read.
+take_file() {
     [ $# -le 1 ] || wrong_usage
     [ $# -eq 0 ] || open_input "$1"
     check_streams "${1-standard input}"
 }
 
-# keep_text NAME: runs the program crates/NAME and keeps what it prints in `text`, and in `last` its last line, which
-# is empty where the text does not end with a newline. A mark behind the text saves the newlines at its end. The shell
-# has another standard error meanwhile: of a program that a signal ended it would speak too.
+# take_arguments ARGUMENT..: those of a command that takes a file and nothing else.
+take_arguments() {
+    take_options "$@"
+    shift "$options"
+    take_file "$@"
+}
+
+# keep_text NAME [ARGUMENT..]: runs the program crates/NAME and keeps what it prints in `text`, and in `last` its last
+# line, which is empty where the text does not end with a newline. A mark behind the text saves the newlines at its end.
+# The shell has another standard error meanwhile: of a program that a signal ended it would speak too.
 keep_text() {
     text=$(
         exec 3>&2 2>/dev/null
-        (exec "$top/tools/run-program" "$1" 2>&3 3>&-)
+        (exec "$top/tools/run-program" "$@" 2>&3 3>&-)
         status=$?
         printf .
         exit "$status"
@@ -98,7 +111,7 @@ pass_output() {
     {
         said=$(
             exec 4>&1 >&3 3>&- 5>&2 2>/dev/null
-            (exec "$top/tools/run-program" "$1" said 2>&5 5>&-)
+            (exec "$top/tools/run-program" --said "$1" 2>&5 5>&-)
             status=$?
             printf . >&4
             exit "$status"

@@ -1,7 +1,7 @@
-// Answers the requests of docs/REQUESTS.md from kind 21 on, as `replies` answers those before: calls each public
-// function that writes a run file, reads a line, or turns a text into a file or a file into a text, on any numbers and
-// any bytes, and prints every field of its reply and every place of what was lent to it. The rows of a request are
-// read by `runfile::read_part`, which `replies` tries.
+// Answers the requests of docs/REQUESTS.md of kinds 21 to 33, 36 and 37, as `replies` answers the others: calls each
+// public function that writes a run file, reads a line, turns a text into a file or a file into a text, or says in a
+// line why a box is listed, on any numbers and any bytes, and prints every field of its reply and every place of what
+// was lent to it. The rows of a request are read by `runfile::read_part`, which `replies` tries.
 use making::Maker;
 ghost use mathlib.Core.Path.{_≡_};
 ghost use Prim.Native.Nat.{_+_, _*_, _≤_, _<_};
@@ -364,6 +364,59 @@ fn answer_shown(bytes: &mut [u8], lent: &mut [u8], text: &mut [u8]) -> bool
     true
 }
 
+// A box number.
+fn answer_number(bytes: &mut [u8], text: &mut [u8]) -> bool
+    requires { ⌜ length (now bytes) ≡ 200000 ⌝ }
+{
+    let head = take_head(bytes, 2, 5000);
+    let size = head.room;
+    if !head.whole {
+        return false;
+    }
+    if !take(bytes, size) {
+        return false;
+    }
+    let number = why::read_number(&bytes[0..size]);
+    inout::print_line(text, b"number", &[truth(number.good), number.value]);
+    true
+}
+
+// Prints the reply of the line that says why.
+fn print_why(file: &[u8], asked: u64, listed: u64, lent: &mut [u8], text: &mut [u8]) {
+    count_up_bytes(lent);
+    let answered = why::answer(file, asked, listed, lent);
+    let reply = [
+        wide(answered.refusal),
+        answered.size as u64,
+        wide(answered.ends),
+    ];
+    print_bytes(text, b"answer", &reply, lent);
+}
+
+// The line that says why.
+fn answer_why(bytes: &mut [u8], lent: &mut [u8], text: &mut [u8]) -> bool
+    requires { ⌜ (length (now bytes) ≡ 200000) × (length (now lent) ≡ 200000) ⌝ }
+{
+    if !take(bytes, 22) {
+        return false;
+    }
+    let asked = number8(bytes, 0);
+    let listed = number8(bytes, 8);
+    let room = number2(bytes, 16) as usize;
+    let size = number4(bytes, 18) as usize;
+    if 5000 < room {
+        return false;
+    }
+    if 200000 < size {
+        return false;
+    }
+    if !take(bytes, size) {
+        return false;
+    }
+    print_why(&bytes[0..size], asked, listed, &mut lent[0..room], text);
+    true
+}
+
 // The maker in the first 23 bytes.
 fn maker(bytes: &[u8]) -> Maker
     requires { ⌜ 23 ≤ length (now bytes) ⌝ }
@@ -534,6 +587,8 @@ fn answer(bytes: &mut [u8], rows: &mut [u64], lent: &mut [u8], text: &mut [u8]) 
         31 => answer_by_head(kind, 18, bytes, lent, text),
         32 => answer_begins(bytes, text),
         33 => answer_settled(bytes, text),
+        36 => answer_number(bytes, text),
+        37 => answer_why(bytes, lent, text),
         _ => false,
     }
 }

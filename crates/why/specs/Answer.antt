@@ -2,10 +2,17 @@
 use Prim.Native.Nat.{ℕ}
 use mathlib.Core.Bool.{Bool, true, false, cond, _&&_}
 use mathlib.Core.List.{List, [], _∷_, _++_}
-use lib.Dec.{ltb}
+use lib.Dec.{eqb, ltb}
 use lib.ListN.{length}
-use Rattle.lines.specs.Line.{field, readOn}
+use Rattle.run.specs.declared.Next.{Next}
+use Rattle.run.specs.declared.Reason.{Reason}
+use Rattle.run.specs.declared.Why.{Why}
+use Rattle.run.specs.Iteration.{noReason}
+use Rattle.run.specs.Why.{whyReply}
+use Rattle.lines.specs.Line.{field, lineOf, placed, readOn}
 use Rattle.lines.specs.Read.{isDigits}
+use Rattle.listing.specs.Listing.{refused-word, outcomeOf}
+use Rattle.why.specs.declared.Answered.{Answered}
 use Rattle.why.specs.declared.Number.{Number}
 
 -- a box number is 1 to 20 decimal digits and nothing else
@@ -55,3 +62,43 @@ reasonLine iteration confidence support =
 -- the line of a box that is on no list
 unfoldable pub notListedLine : List ℕ
 notListedLine = not-listed-words ++ newline
+
+-- `refused` and its number
+unfoldable pub refusedLine : ℕ → List ℕ
+refusedLine refusal = lineOf refused-word (refusal ∷ [])
+
+-- the line of a reason; iteration 0 says that the box is not listed
+unfoldable pub listedLine : Reason → List ℕ
+listedLine r =
+    cond (eqb (r .iteration) 0) notListedLine (reasonLine (r .iteration) (r .confidence) (r .support))
+
+-- the line of a reply
+unfoldable pub whyLine : Why → List ℕ
+whyLine w = cond (eqb (w .refusal) 0) (listedLine (w .reason)) (refusedLine (w .refusal))
+
+-- the question put to an outcome: its refusal and no reason, or else the reply of its last state
+unfoldable pub whyAfter : Next → ℕ → ℕ → Why
+whyAfter last asked listed =
+    cond (eqb (last .refusal) 0) (whyReply (last .run) asked listed)
+    (record { refusal = last .refusal; run = last .run; reason = noReason })
+
+module _ (bytes : List ℕ) (asked listed : ℕ) where
+  -- the question put to a file
+  unfoldable pub whyOf : Why
+  whyOf = whyAfter (outcomeOf bytes) asked listed
+
+  -- the line that says why
+  unfoldable pub answerOf : List ℕ
+  answerOf = whyLine whyOf
+
+  -- the reply to a slice of so many bytes: refusal 10 where the line does not fit, else its length and the number
+  -- behind `refused`, or 0
+  unfoldable pub answerReply : ℕ → Answered
+  answerReply room =
+      cond (ltb room (length answerOf))
+      (record { refusal = 10; size = 0; ends = 0 })
+      (record { refusal = 0; size = length answerOf; ends = whyOf .refusal })
+
+  -- the slice afterwards: the line at its front, or as it was where the call is refused
+  unfoldable pub answerWrites : List ℕ → List ℕ
+  answerWrites slice = cond (ltb (length slice) (length answerOf)) slice (placed slice 0 answerOf)

@@ -54,7 +54,7 @@ returns c =
     (omega (arith, one .1, two .1, s .pre)))
     (part-put support-words (a .support) (three .0))
     (omega (arith, one .1, two .1, three .1, s .pre)) in
-    ((omega (arith, line .ends), omega (arith, one .1, two .1, three .1)), line .stands)
+    (line, omega (arith, one .1, two .1, three .1))
 
 pub put-reason-spec : {M : Type 1} → statement M
 put-reason-spec =
