@@ -1,6 +1,7 @@
 -- The one claim over the marked cases: the definitions compute to what docs/SCOPE.md prints; and for every slice of
--- rows confidence 1 never arises when t is 0. Assumes nothing.
-use mathlib.Core.Path.{_≡_, refl}
+-- rows confidence 1 never arises when t is 0. The states of case S are those of CaseS.antt, so that they are computed
+-- once. Assumes nothing.
+use mathlib.Core.Path.{_≡_, refl, ap}
 use mathlib.Core.Bool.{Bool, true, false, cond}
 use mathlib.Core.List.{List}
 use Prim.Native.Nat.{ℕ}
@@ -44,7 +45,24 @@ use Rattle.gradecast.specs.Steps.{
   sentTo,
   messages,
 }
-use Rattle.run.specs.Iteration.{entry, gradedRows, confidences, newRow, newList, nextRun}
+use Rattle.run.specs.declared.Next.{Next}
+use Rattle.run.specs.Iteration.{
+  entry,
+  gradedRows,
+  confidences,
+  newRow,
+  newList,
+  noReason,
+  reasonFrom,
+  reasonIn,
+  reasonAt,
+  reasonsOf,
+  joined,
+  joinsNow,
+  reasonNow,
+  newReason,
+  nextRun,
+}
 use Rattle.run.specs.State.{
   startRow,
   startRefusal,
@@ -53,10 +71,22 @@ use Rattle.run.specs.State.{
   badEntry,
   badPlace,
   tooManySent,
+  noReasons,
+  listedBy,
+  kept,
+  unsaid,
+  unlisted,
+  notYetDone,
+  tooSure,
+  unfit,
+  badReason,
+  badReasons,
+  badState,
   iterateRefusal,
   iterateReply,
   after,
 }
+use Rattle.run.specs.Why.{overdone, noBox, notAsked, whyRefusal, whyReply}
 use Rattle.sizes.specs.Sizes.{largestT}
 use Rattle.runfile.specs.File.{
   number,
@@ -115,7 +145,8 @@ use Rattle.listing.specs.Listing.{
   listingOf,
 }
 use Rattle.run.specs.State.{zeros}
-use Rattle.marked.specs.Cases.{Hold, marked}
+use Rattle.marked.specs.Cases.{Hold, shown, says, saysOf3, marked}
+use Rattle.marked.proofs.CaseS.{after-1, after-2}
 
 infixr 4 _⨾_
 -- a case that holds, and those behind it
@@ -136,13 +167,22 @@ unfolding sum count any build find member setOf places support before best most 
     soundZero tableRows carried voteOf twoRows supportOf confidenceAt confidenceOf gradedRow counted chosenRow
     voteRefusal sizeRefusal unless voteReply gradeReply place1 placeFrom place2 place3 sends hears heard1 heard2
     column2 voted heard3 column3 supportFor confidence gradeRow sentTo messages entry gradedRows confidences newRow
-    newList nextRun startRow startRefusal startRun startReply badEntry badPlace tooManySent iterateRefusal
-    iterateReply after largestT number hasMark versionOf nOf tByte faultyOf tOf headingBytes rowFrom headingRow
-    tableRow headingTests headingRefusal headingOf nothingRead headingReply tableTests tableRefusal tens decimal
-    field fields lineOf orElse tableBytes tableBegins bytesOf tableOf refusedTable heading rowsOf replyAfter
-    stateAfter refusedStart refusedAt due goesOn runLine atLine lastLine boxLine boxLines endedBy passed doneOf
-    iterationLines refusedLater endsWith startLine firstLines outcomeOf listingOf zeros
+    newList nextRun startRow startRefusal startRun startReply badEntry badPlace tooManySent noReasons reasonFrom
+    reasonIn reasonAt reasonsOf joined joinsNow reasonNow newReason listedBy kept unsaid unlisted notYetDone tooSure
+    unfit badReason badReasons badState iterateRefusal iterateReply after largestT number hasMark versionOf nOf
+    tByte faultyOf tOf headingBytes rowFrom headingRow tableRow headingTests headingRefusal headingOf nothingRead
+    headingReply tableTests tableRefusal tens decimal field fields lineOf orElse tableBytes tableBegins bytesOf
+    tableOf refusedTable heading rowsOf replyAfter stateAfter refusedStart refusedAt due goesOn runLine atLine
+    lastLine boxLine boxLines endedBy passed doneOf iterationLines refusedLater endsWith startLine firstLines
+    outcomeOf listingOf zeros noReason overdone noBox notAsked whyRefusal whyReply
 marked-hold =
-    refl ⨾ refl ⨾ refl ⨾ refl ⨾ refl ⨾ refl ⨾ refl ⨾ refl ⨾ refl ⨾ refl ⨾ refl ⨾ refl ⨾ refl ⨾ refl ⨾ refl ⨾ refl ⨾
-    refl ⨾
+    ap shown after-1 ⨾ ap shown after-2 ⨾ refl ⨾ refl ⨾ refl ⨾
+    ap (λ (r : Next). says r 1 4) after-2 ⨾
+    ap (λ (r : Next). says r 2 4) after-2 ⨾
+    ap (λ (r : Next). says r 3 4) after-2 ⨾
+    ap (λ (r : Next). saysOf3 r 1) after-2 ⨾
+    ap (λ (r : Next). saysOf3 r 2) after-2 ⨾
+    ap (λ (r : Next). saysOf3 r 3) after-2 ⨾
+    ap (λ (r : Next). says r 4 1) after-2 ⨾
+    refl ⨾ refl ⨾ refl ⨾ refl ⨾ refl ⨾ refl ⨾ refl ⨾ refl ⨾ refl ⨾ refl ⨾ refl ⨾ refl ⨾
     never-confidence-1 ⨾ refl ⨾ refl ⨾ tt

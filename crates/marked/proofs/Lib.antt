@@ -1,2 +1,3 @@
+pub mod CaseS
 pub mod Claim
 pub mod Worthless

@@ -47,11 +47,27 @@ use Rattle.gradecast.specs.Steps.{
   column3,
   confidence,
   gradeRow,
+  supportFor,
   sentTo,
   messages,
 }
 use Rattle.run.specs.declared.Next.{Next}
-use Rattle.run.specs.Iteration.{entry, gradedRows, confidences, newRow, newList, nextRun}
+use Rattle.run.specs.Iteration.{
+  entry,
+  gradedRows,
+  confidences,
+  newRow,
+  newList,
+  reasonFrom,
+  reasonIn,
+  reasonAt,
+  reasonsOf,
+  joined,
+  joinsNow,
+  reasonNow,
+  newReason,
+  nextRun,
+}
 use Rattle.run.specs.State.{
   startRow,
   startRefusal,
@@ -61,6 +77,17 @@ use Rattle.run.specs.State.{
   badEntry,
   badPlace,
   tooManySent,
+  noReasons,
+  listedBy,
+  kept,
+  unsaid,
+  unlisted,
+  notYetDone,
+  tooSure,
+  unfit,
+  badReason,
+  badReasons,
+  badState,
   iterateRefusal,
   iterateReply,
   after,
@@ -68,6 +95,7 @@ use Rattle.run.specs.State.{
 use Rattle.run.proofs.Calls.{StartCall, IterateCall, start-call-is, iterate-call-is}
 use Rattle.agreement.specs.Demand.{Agrees, Valid, AllHold}
 use Rattle.marked.specs.Cases.{rowsOfS, liesOfS, tablesOfS, caseS}
+use Rattle.marked.proofs.CaseS.{after-1, after-2}
 use Rattle.marked.specs.Worthless.{
   refusing,
   fixedRow,
@@ -112,23 +140,21 @@ record ComputedBy (v : ℕ) (number : ℕ → ℕ → ℕ → ℕ) : Type 0 wher
   stays1 : getD (firstOnly (caseS 1 .run) (silent 4) .run .rows) 1 0 ≡ 20
 
 computed : Computed
-unfolding sum count any build find member setOf places support before best most firstOf outside tooMany stray
-    sound soundZero tableRows carried voteOf twoRows supportOf confidenceAt confidenceOf gradedRow counted chosenRow
-    firmFor firmLeaders above2 voteRefusal sizeRefusal choiceRefusal unless voteReply gradeReply choiceReply
-    place1 placeFrom place2 place3 sends hears heard1 heard2 column2 voted heard3 column3 confidence gradeRow sentTo
-    messages entry gradedRows confidences newRow newList nextRun startRow startRefusal startRun startReply badEntry
-    badPlace tooManySent iterateRefusal iterateReply after
+unfolding sum count any build find member places support before best most firstOf outside tooMany stray sound soundZero
+    carried voteOf twoRows supportOf confidenceAt confidenceOf gradedRow counted chosenRow firmFor firmLeaders
+    above2 voteRefusal sizeRefusal choiceRefusal unless voteReply gradeReply choiceReply startRefusal startRun
+    startReply after
 computed =
     record {
       started = refl;
-      iterated = refl;
+      iterated = ap (λ (r : Next). r .refusal) after-1;
       done0 = refl;
-      done1 = refl;
-      messages1 = refl;
-      messages2 = refl;
-      row0 = refl;
-      row1 = refl;
-      last1 = refl;
+      done1 = ap (λ (r : Next). r .run .done) after-1;
+      messages1 = ap (λ (r : Next). r .run .sent) after-1;
+      messages2 = ap (λ (r : Next). r .run .sent) after-2;
+      row0 = ap (λ (r : Next). getD (r .run .rows) 0 0) after-1;
+      row1 = ap (λ (r : Next). getD (r .run .rows) 1 0) after-1;
+      last1 = ap (λ (r : Next). getD (r .run .rows) 1 0) after-2;
       vote6 = refl;
       vote0 = refl;
       grade6 = refl;
@@ -138,13 +164,14 @@ computed =
     }
 
 computed-by : (v : ℕ) (number : ℕ → ℕ → ℕ → ℕ) → ComputedBy v number
-unfolding sum count any build find member setOf places support before best most firstOf outside tooMany stray
-    sound soundZero tableRows carried voteOf twoRows supportOf confidenceAt confidenceOf gradedRow counted chosenRow
-    firmFor firmLeaders above2 voteRefusal sizeRefusal choiceRefusal unless voteReply gradeReply choiceReply
-    place1 placeFrom place2 place3 sends hears heard1 heard2 column2 voted heard3 column3 confidence gradeRow sentTo
-    messages entry gradedRows confidences newRow newList nextRun startRow startRefusal startRun startReply badEntry
-    badPlace tooManySent iterateRefusal iterateReply after fixedRow firstOnly
-    invented runBy
+unfolding sum count any build find member setOf places support before best most firstOf outside tooMany stray sound
+    soundZero tableRows carried voteOf twoRows supportOf confidenceAt confidenceOf gradedRow counted chosenRow
+    firmFor firmLeaders above2 voteRefusal sizeRefusal choiceRefusal unless voteReply gradeReply choiceReply place1
+    placeFrom place2 place3 sends hears heard1 heard2 column2 voted heard3 column3 confidence gradeRow supportFor
+    sentTo messages entry gradedRows confidences newRow newList nextRun startRow startRefusal startRun startReply
+    badEntry badPlace tooManySent noReasons reasonFrom reasonIn reasonAt reasonsOf joined joinsNow reasonNow
+    newReason listedBy kept unsaid unlisted notYetDone tooSure unfit badReason badReasons badState iterateRefusal
+    iterateReply after fixedRow firstOnly invented runBy
 computed-by v number =
     record {
       fixed0 = refl;

@@ -9,7 +9,9 @@ use Rattle.gradecast.specs.Steps.{place1, place2, place3, confidence, gradeRow,
 use Rattle.gradecast.specs.Lies.{silent}
 use Rattle.run.specs.declared.Run.{Run}
 use Rattle.run.specs.declared.Next.{Next}
+use Rattle.run.specs.declared.Why.{Why}
 use Rattle.run.specs.State.{startReply, after}
+use Rattle.run.specs.Why.{whyReply}
 use Rattle.listing.specs.Listing.{listingOf}
 
 -- a case: the numbers that the definitions give, and the numbers of docs/SCOPE.md; or what they give for any slice of
@@ -60,6 +62,18 @@ rowsOfS = 10 ∷ 20 ∷ 30 ∷ 0 ∷ []
 -- case S after m iterations: n = 4, t = 1, box 4 faulty
 abbrev pub caseS : ℕ → Next
 caseS = after (startReply 4 1 8 rowsOfS) tablesOfS
+
+-- the answer to why a box is listed, in numbers: the refusal, then iteration, confidence and support
+abbrev pub told : Why → List ℕ
+told r = r .refusal ∷ r .reason .iteration ∷ r .reason .confidence ∷ r .reason .support ∷ []
+
+-- what a box says of another, by the state of a reply; both count from 1 here, as in the call
+abbrev pub says : Next → ℕ → ℕ → List ℕ
+says r asked listed = told (whyReply (r .run) asked listed)
+
+-- what a box says of boxes 1 to 3
+abbrev pub saysOf3 : Next → ℕ → List ℕ
+saysOf3 r asked = says r asked 1 ++ (says r asked 2 ++ says r asked 3)
 
 -- rows below 256 in bytes, eight for each
 abbrev pub inBytes : List ℕ → List ℕ
@@ -112,6 +126,17 @@ marked =
     Case.gives (graded (caseS 0 .run) liesOfS 1 3) (20 ∷ 1 ∷ 2 ∷ []) ∷
     Case.gives (graded (caseS 0 .run) liesOfS 0 3) (0 ∷ 0 ∷ 1 ∷ []) ∷
     Case.gives (graded (caseS 0 .run) liesOfS 2 3) (0 ∷ 0 ∷ 1 ∷ []) ∷
+    -- why box 4 is listed, after the whole run: since iteration 1, by boxes 1 and 3 with confidence 0 and support 1, by
+    -- box 2 with confidence 1 and support 2
+    Case.gives (says (caseS 2) 1 4) (0 ∷ 1 ∷ 0 ∷ 1 ∷ []) ∷
+    Case.gives (says (caseS 2) 2 4) (0 ∷ 1 ∷ 1 ∷ 2 ∷ []) ∷
+    Case.gives (says (caseS 2) 3 4) (0 ∷ 1 ∷ 0 ∷ 1 ∷ []) ∷
+    -- boxes 1 to 3 are on nobody's list
+    Case.gives (saysOf3 (caseS 2) 1) (replicate 12 0) ∷
+    Case.gives (saysOf3 (caseS 2) 2) (replicate 12 0) ∷
+    Case.gives (saysOf3 (caseS 2) 3) (replicate 12 0) ∷
+    -- box 4 is faulty and can't be asked
+    Case.gives (says (caseS 2) 4 1) (15 ∷ 0 ∷ 0 ∷ 0 ∷ []) ∷
     -- the whole listing of its file
     Case.gives (listingOf fileOfS) linesOfS ∷
     -- rows 50, 50, 50, box 4 silent: 63 and 63 messages

@@ -29,6 +29,7 @@ altered r sent rows =
             sent = sent;
             rows = rows;
             lists = r .run .lists;
+            reasons = r .run .reasons;
           };
     }
 
@@ -56,6 +57,7 @@ raised s =
             sent = s .sent;
             rows = s .rows;
             lists = s .lists;
+            reasons = s .reasons;
           };
     }
 

@@ -3,7 +3,9 @@
 // have no requests of their own: all that is read and all that is printed goes through them.
 use gradecast::Cast;
 use run::Next;
+use run::Reasons;
 use run::Run;
+use run::Why;
 ghost use mathlib.Core.Path.{_≡_};
 ghost use Prim.Native.Nat.{_+_, _*_, _≤_, _<_};
 ghost use lib.ListN.{length};
@@ -132,12 +134,35 @@ fn box_lists(bytes: &[u8], at: usize) -> [u16; 13]
     lists
 }
 
-// The state in the first 143 bytes.
+// The reasons from a place on: three bytes for each of the 169.
+fn box_reasons(bytes: &[u8], at: usize) -> Reasons
+    requires { ⌜ (at + 507 ≤ length (now bytes)) × (at < 256) ⌝ }
+{
+    let mut iterations = [0u8; 169];
+    let mut confidences = [0u8; 169];
+    let mut supports = [0u8; 169];
+    let mut p: usize = 0;
+    while p < 169 {
+        let from = at + 3 * p;
+        iterations[p] = bytes[from];
+        confidences[p] = bytes[from + 1];
+        supports[p] = bytes[from + 2];
+        p += 1;
+    }
+    Reasons {
+        iterations,
+        confidences,
+        supports,
+    }
+}
+
+// The state in the first 650 bytes.
 fn state(bytes: &[u8]) -> Run
-    requires { ⌜ 143 ≤ length (now bytes) ⌝ }
+    requires { ⌜ 650 ≤ length (now bytes) ⌝ }
 {
     let rows = box_rows(bytes, 13);
     let lists = box_lists(bytes, 117);
+    let reasons = box_reasons(bytes, 143);
     Run {
         n: bytes[0],
         t: bytes[1],
@@ -146,32 +171,61 @@ fn state(bytes: &[u8]) -> Run
         sent: number(bytes, 5, 8),
         rows,
         lists,
+        reasons,
     }
 }
 
-// The refusal's number and the numbers of the state.
-fn state_numbers(next: Next) -> [u64; 32] {
-    let run = next.run;
-    let mut numbers = [0u64; 32];
-    numbers[0] = wide(next.refusal);
-    numbers[1] = wide(run.n);
-    numbers[2] = wide(run.t);
-    numbers[3] = wide2(run.faulty);
-    numbers[4] = wide(run.done);
-    numbers[5] = run.sent;
+// The numbers of the reasons, behind 31 places for the rest of a state: for each of the 169 iteration, confidence and
+// support.
+fn reason_numbers(reasons: Reasons) -> [u64; 538] {
+    let mut numbers = [0u64; 538];
+    let mut p: usize = 0;
+    while p < 169 {
+        let at = 31 + 3 * p;
+        numbers[at] = wide(reasons.iterations[p]);
+        numbers[at + 1] = wide(reasons.confidences[p]);
+        numbers[at + 2] = wide(reasons.supports[p]);
+        p += 1;
+    }
+    numbers
+}
+
+// The numbers of the state.
+fn state_numbers(run: Run) -> [u64; 538] {
+    let mut numbers = reason_numbers(run.reasons);
+    numbers[0] = wide(run.n);
+    numbers[1] = wide(run.t);
+    numbers[2] = wide2(run.faulty);
+    numbers[3] = wide(run.done);
+    numbers[4] = run.sent;
     let mut i: usize = 0;
     while i < 13 {
-        numbers[6 + i] = run.rows[i];
-        numbers[19 + i] = wide2(run.lists[i]);
+        numbers[5 + i] = run.rows[i];
+        numbers[18 + i] = wide2(run.lists[i]);
         i += 1;
     }
     numbers
 }
 
+// Prints the numbers of a reply, at most four, with the state behind them.
+fn print_state(text: &mut [u8], word: &[u8], reply: &[u64], run: Run)
+    requires { ⌜ length (now reply) ≤ 4 ⌝ }
+{
+    let state = state_numbers(run);
+    let mut numbers = [0u64; 542];
+    let at = reply.len();
+    let mut k: usize = 0;
+    while k < 538 {
+        numbers[at + k] = state[k];
+        k += 1;
+    }
+    let end = at + 538;
+    print_rows(text, word, reply, &mut numbers[0..end]);
+}
+
 // Prints the refusal's number and the state.
-fn print_state(text: &mut [u8], word: &[u8], next: Next) {
-    let numbers = state_numbers(next);
-    inout::print_line(text, word, &numbers);
+fn print_next(text: &mut [u8], word: &[u8], next: Next) {
+    print_state(text, word, &[wide(next.refusal)], next.run);
 }
 
 // Prints the numbers of a reply with the lent slice, which stands behind their places already.
@@ -297,6 +351,11 @@ fn answer_choice(bytes: &mut [u8], rows: &mut [u64], text: &mut [u8]) -> bool
     true
 }
 
+// Prints a start.
+fn print_start(n: u8, t: u8, faulty: u16, rows: &[u64], text: &mut [u8]) {
+    print_next(text, b"start", run::start(n, t, faulty, rows));
+}
+
 // A start.
 fn answer_start(bytes: &mut [u8], rows: &mut [u64], text: &mut [u8]) -> bool
     requires { ⌜ (length (now bytes) ≡ 200000) × (length (now rows) ≡ 5001) ⌝ }
@@ -311,7 +370,7 @@ fn answer_start(bytes: &mut [u8], rows: &mut [u64], text: &mut [u8]) -> bool
     if !take_rows(bytes, count, rows) {
         return false;
     }
-    print_state(text, b"start", run::start(n, t, faulty, &rows[0..count]));
+    print_start(n, t, faulty, &rows[0..count], text);
     true
 }
 
@@ -323,7 +382,7 @@ struct Rest {
 
 // Reads a table whose number of rows stands at a place of the bytes.
 fn take_table(bytes: &mut [u8], at: usize, rows: &mut [u64]) -> Rest
-    requires { ⌜ (length (now bytes) ≡ 200000) × (length (now rows) ≡ 5001) × (at < 256) ⌝ }
+    requires { ⌜ (length (now bytes) ≡ 200000) × (length (now rows) ≡ 5001) × (at < 1000) ⌝ }
     ensures { λ r. ⌜ r .count ≤ 5000 ⌝ }
 {
     let count = number2(bytes, at) as usize;
@@ -343,16 +402,39 @@ fn take_table(bytes: &mut [u8], at: usize, rows: &mut [u64]) -> Rest
 fn answer_iteration(bytes: &mut [u8], rows: &mut [u64], text: &mut [u8]) -> bool
     requires { ⌜ (length (now bytes) ≡ 200000) × (length (now rows) ≡ 5001) ⌝ }
 {
-    if !take(bytes, 145) {
+    if !take(bytes, 652) {
         return false;
     }
     let run = state(bytes);
-    let table = take_table(bytes, 143, rows);
+    let table = take_table(bytes, 650, rows);
     let count = table.count;
     if table.whole {
-        print_state(text, b"iteration", run.iterate(&rows[0..count]));
+        print_next(text, b"iteration", run.iterate(&rows[0..count]));
     }
     table.whole
+}
+
+// Prints why a box is listed.
+fn print_why(why: Why, text: &mut [u8]) {
+    let reply = [
+        wide(why.refusal),
+        wide(why.reason.iteration),
+        wide(why.reason.confidence),
+        wide(why.reason.support),
+    ];
+    print_state(text, b"why", &reply, why.run);
+}
+
+// Why a box is listed.
+fn answer_why(bytes: &mut [u8], text: &mut [u8]) -> bool
+    requires { ⌜ length (now bytes) ≡ 200000 ⌝ }
+{
+    if !take(bytes, 666) {
+        return false;
+    }
+    let run = state(bytes);
+    print_why(run.why(number(bytes, 650, 8), number(bytes, 658, 8)), text);
+    true
 }
 
 // Prints the heading reader's reply, with the lent slice behind its five numbers.
@@ -750,18 +832,14 @@ fn answer_outcome(bytes: &mut [u8], text: &mut [u8]) -> bool
     let file = take_file(bytes);
     let count = file.count;
     if file.whole {
-        print_state(text, b"outcome", listing::outcome(&bytes[0..count]));
+        print_next(text, b"outcome", listing::outcome(&bytes[0..count]));
     }
     file.whole
 }
 
-// The state that stands where there is no run. No call of this kind is refused, so the refusal's number is left out.
+// The state that stands where there is no run. No call of this kind is refused, so there is no refusal's number.
 fn answer_none(text: &mut [u8]) -> bool {
-    let numbers = state_numbers(Next {
-        refusal: 0,
-        run: run::no_run(),
-    });
-    inout::print_line(text, b"none", &numbers[1..32]);
+    print_state(text, b"none", &[], run::no_run());
     true
 }
 
@@ -801,6 +879,7 @@ fn answer(bytes: &mut [u8], numbers: &mut [u64], text: &mut [u8]) -> bool
         19 => answer_outcome(bytes, text),
         20 => answer_none(text),
         34 => answer_confidence(bytes, text),
+        35 => answer_why(bytes, text),
         _ => false,
     }
 }

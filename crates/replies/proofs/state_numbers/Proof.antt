@@ -1,4 +1,4 @@
--- `replies::state_numbers` is safe and ends: there are 32 numbers throughout. The measure is the number of boxes left.
+-- `replies::state_numbers` is safe and ends: there are 538 numbers throughout. The measure is the number of boxes left.
 -- Assumes nothing.
 use Prim.Native.Nat.{_-_}
 use mathlib.Core.Path.{_≡_}
@@ -8,10 +8,13 @@ use Rattle.replies.proofs.state_numbers.Statement.{statement}
 use Rattle.replies.proofs.state_numbers.Tie as tie
 
 abbrev Inv-loop : tie.InvT-loop
-Inv-loop run numbers₀ i₀ numbers i = length numbers ≡ 32
+Inv-loop run numbers₀ i₀ numbers i = length numbers ≡ 538
 
 abbrev μ-loop : tie.MeasureT-loop
 μ-loop run numbers₀ i₀ numbers i = 13 - i
+
+reason-numbers-requires : tie.Need-reason-numbers-requires Inv-loop μ-loop
+reason-numbers-requires c κs = search needs
 
 wide-requires : tie.Need-wide-requires Inv-loop μ-loop
 wide-requires c κs = search needs
@@ -25,26 +28,20 @@ wide-requires-2 c κs = search needs
 array-write-numbers-2 : tie.Need-array-write-numbers-2 Inv-loop μ-loop
 array-write-numbers-2 c = search needs
 
-wide-requires-3 : tie.Need-wide-requires-3 Inv-loop μ-loop
-wide-requires-3 c κs = search needs
+wide2-requires : tie.Need-wide2-requires Inv-loop μ-loop
+wide2-requires c κs = search needs
 
 array-write-numbers-3 : tie.Need-array-write-numbers-3 Inv-loop μ-loop
 array-write-numbers-3 c = search needs
 
-wide2-requires : tie.Need-wide2-requires Inv-loop μ-loop
-wide2-requires c κs = search needs
+wide-requires-3 : tie.Need-wide-requires-3 Inv-loop μ-loop
+wide-requires-3 c κs = search needs
 
 array-write-numbers-4 : tie.Need-array-write-numbers-4 Inv-loop μ-loop
 array-write-numbers-4 c = search needs
 
-wide-requires-4 : tie.Need-wide-requires-4 Inv-loop μ-loop
-wide-requires-4 c κs = search needs
-
 array-write-numbers-5 : tie.Need-array-write-numbers-5 Inv-loop μ-loop
 array-write-numbers-5 c = search needs
-
-array-write-numbers-6 : tie.Need-array-write-numbers-6 Inv-loop μ-loop
-array-write-numbers-6 c = search needs
 
 loop-holds : tie.Need-loop-holds Inv-loop μ-loop
 loop-holds c = search needs
@@ -61,8 +58,8 @@ add-numbers c = search needs
 mul-numbers-2 : tie.Need-mul-numbers-2 Inv-loop μ-loop
 mul-numbers-2 c = search needs
 
-array-write-numbers-7 : tie.Need-array-write-numbers-7 Inv-loop μ-loop
-array-write-numbers-7 c = search needs
+array-write-numbers-6 : tie.Need-array-write-numbers-6 Inv-loop μ-loop
+array-write-numbers-6 c = search needs
 
 mul-wide2 : tie.Need-mul-wide2 Inv-loop μ-loop
 mul-wide2 c = search needs
@@ -79,8 +76,8 @@ add-numbers-2 c = search needs
 mul-numbers-3 : tie.Need-mul-numbers-3 Inv-loop μ-loop
 mul-numbers-3 c = search needs
 
-array-write-numbers-8 : tie.Need-array-write-numbers-8 Inv-loop μ-loop
-array-write-numbers-8 c = search needs
+array-write-numbers-7 : tie.Need-array-write-numbers-7 Inv-loop μ-loop
+array-write-numbers-7 c = search needs
 
 add-i : tie.Need-add-i Inv-loop μ-loop
 add-i c = search needs
@@ -100,29 +97,28 @@ state-numbers-spec =
     (tie.spec
     Inv-loop
     μ-loop
+    reason-numbers-requires
     wide-requires
     array-write-numbers
     wide-requires-2
     array-write-numbers-2
-    wide-requires-3
-    array-write-numbers-3
     wide2-requires
+    array-write-numbers-3
+    wide-requires-3
     array-write-numbers-4
-    wide-requires-4
     array-write-numbers-5
-    array-write-numbers-6
     loop-holds
     mul-numbers
     element-copy-out-numbers
     add-numbers
     mul-numbers-2
-    array-write-numbers-7
+    array-write-numbers-6
     mul-wide2
     element-copy-out-wide2
     wide2-requires-2
     add-numbers-2
     mul-numbers-3
-    array-write-numbers-8
+    array-write-numbers-7
     add-i
     loop-less
     loop-again
