@@ -74,10 +74,10 @@ use Rattle.run.specs.State.{
   noReasons,
   listedBy,
   kept,
-  unsaid,
+  withoutIteration,
   unlisted,
   notYetDone,
-  tooSure,
+  confidenceAbove1,
   unfit,
   badReason,
   badReasons,
@@ -168,7 +168,7 @@ unfolding sum count any build find member setOf places support before best most 
     voteRefusal sizeRefusal unless voteReply gradeReply place1 placeFrom place2 place3 sends hears heard1 heard2
     column2 voted heard3 column3 supportFor confidence gradeRow sentTo messages entry gradedRows confidences newRow
     newList nextRun startRow startRefusal startRun startReply badEntry badPlace tooManySent noReasons reasonFrom
-    reasonIn reasonAt reasonsOf joined joinsNow reasonNow newReason listedBy kept unsaid unlisted notYetDone tooSure
+    reasonIn reasonAt reasonsOf joined joinsNow reasonNow newReason listedBy kept withoutIteration unlisted notYetDone confidenceAbove1
     unfit badReason badReasons badState iterateRefusal iterateReply after largestT number hasMark versionOf nOf
     tByte faultyOf tOf headingBytes rowFrom headingRow tableRow headingTests headingRefusal headingOf nothingRead
     headingReply tableTests tableRefusal tens decimal field fields lineOf orElse tableBytes tableBegins bytesOf

@@ -30,7 +30,7 @@ use Rattle.run.proofs.Closed.{legal-listing, legal-none}
 use Rattle.run.proofs.Listings.{Listing}
 use Rattle.runfile.specs.Reply.{headingTests, headingRefusal}
 use Rattle.runfile.proofs.Laws.{heading-number}
-use Rattle.lines.specs.Line.{decimal, field}
+use Rattle.lines.specs.Line.{field}
 use Rattle.lines.proofs.Decimal.{decimal-most}
 use Rattle.lines.proofs.Lines.{line-size}
 use Rattle.listing.specs.File.{orElse, tableBegins, heading, due}
