@@ -72,8 +72,8 @@ take_arguments() {
 }
 
 # keep_text NAME [ARGUMENT..]: runs the program crates/NAME and keeps what it prints in `text`, and in `last` its last
-# line, which is empty where the text does not end with a newline. A mark behind the text saves the newlines at its end.
-# The shell has another standard error meanwhile: of a program that a signal ended it would speak too.
+# line, which is empty where the text does not end with a newline. A mark behind the text saves the newlines at its
+# end. The shell has another standard error meanwhile: of a program that a signal ended it would speak too.
 keep_text() {
     text=$(
         exec 3>&2 2>/dev/null

@@ -1,6 +1,6 @@
-// Takes two box numbers as its arguments, reads a run file on standard input and prints one line: why the second box is
-// on the list of the first. What it prints is the library's proved text. Where the arguments are not two box numbers it
-// says how it is used, and reads nothing.
+// Takes two box numbers as its arguments, reads a run file on standard input and prints one line: why the second box
+// is on the list of the first. What it prints is the library's proved text. Where the arguments are not two box
+// numbers it says how it is used, and reads nothing.
 //
 // 20 bytes are enough for a box number, and 64 for a line. 182,634 bytes are enough of any file: the largest has one
 // less, and one more shows that a file goes on past its last table.

@@ -1,5 +1,5 @@
--- The line that says why, by what the reply is; the question that is put to a file; and the reply of the call by whether
--- the line fits. Assumes nothing.
+-- The line that says why, by what the reply is; the question that is put to a file; and the reply of the call by
+-- whether the line fits. Assumes nothing.
 use mathlib.Core.Path.{_≡_, refl, sym, ap, _∙_}
 use mathlib.Core.Bool.{Bool, true, false}
 use mathlib.Core.List.{List, _++_}

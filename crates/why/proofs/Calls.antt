@@ -1,5 +1,5 @@
--- What is said of calls: of every reply of `answer`, with the last contents of the slice, that meets the contract as the
--- toolchain states it. Assumes nothing.
+-- What is said of calls: of every reply of `answer`, with the last contents of the slice, that meets the contract as
+-- the toolchain states it. Assumes nothing.
 use mathlib.Core.Path.{_≡_, refl, sym, ap, ap₂, _∙_}
 use mathlib.Core.Bool.{cond}
 use mathlib.Core.List.{List, []}

@@ -1,6 +1,6 @@
--- By what the line is `refused`: by the number with which the listing of the file ends, and else by 15, where a number is
--- no box or the box that is asked is faulty. For a file that is taken ends in a legal state, of n, t and the faulty set
--- of its heading, with no more than t + 1 iterations done; so nothing else is refused. Assumes nothing.
+-- By what the line is `refused`: by the number with which the listing of the file ends, and else by 15, where a number
+-- is no box or the box that is asked is faulty. For a file that is taken ends in a legal state, of n, t and the faulty
+-- set of its heading, with no more than t + 1 iterations done; so nothing else is refused. Assumes nothing.
 use mathlib.Core.Path.{_≡_, refl, sym, ap, ap₂, subst, _∙_}
 use mathlib.Core.Bool.{Bool, cond, _||_}
 use mathlib.Core.List.{List}

@@ -81,8 +81,8 @@ ends-below : (bytes : List ℕ) → endsWith bytes < 100
 unfolding orElse
 ends-below bytes =
     let exact = eqb (length bytes) (tableBegins (heading bytes .n) (due bytes)) in
-    rw (ends-is bytes)
-    (either-below (eqb (heading bytes .refusal) 0) (either-below exact (omega arith) (omega arith)) (heading-below bytes))
+    let later = either-below exact {x = 0} {y = 8} (omega arith) (omega arith) in
+    rw (ends-is bytes) (either-below (eqb (heading bytes .refusal) 0) later (heading-below bytes))
 
 -- a support that gives confidence 0 or 1
 support-few : (t support : ℕ) → confidenceAt t support ≤ 1 → support ≤ 2 * t

@@ -1,5 +1,5 @@
--- `notebook_why::print_answer` is safe, ends and gives the length of the whole line: no line has more than 64 bytes, and
--- what was written lies within the text. Assumes nothing.
+-- `notebook_why::print_answer` is safe, ends and gives the length of the whole line: no line has more than 64 bytes,
+-- and what was written lies within the text. Assumes nothing.
 use mathlib.Core.Path.{_≡_, sym, ap, _∙_}
 use Prim.Native.Nat.{_≤_}
 use native.Mathlib.Omega.{arith}

@@ -1,5 +1,5 @@
--- `why::answer` meets its contract: the line is put together apart, so that a slice that is too short stays as it is; one
--- that has room takes it at its front. Assumes nothing.
+-- `why::answer` meets its contract: the line is put together apart, so that a slice that is too short stays as it is;
+-- one that has room takes it at its front. Assumes nothing.
 use mathlib.Core.Path.{_≡_, sym, ap, subst, _∙_}
 use mathlib.Core.List.{List}
 use Prim.Native.Nat.{ℕ, _≤_, _<_}

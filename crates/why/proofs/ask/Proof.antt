@@ -1,5 +1,5 @@
--- `why::ask` meets its contract: a file that is refused gives its refusal and no reason, and the last state of any other
--- is asked. Assumes nothing.
+-- `why::ask` meets its contract: a file that is refused gives its refusal and no reason, and the last state of any
+-- other is asked. Assumes nothing.
 use mathlib.Core.Path.{_∙_}
 use Rattle.run.specs.Iteration.{noReason}
 use Rattle.why.proofs.Answers.{after-refused, after-asked, why-of}

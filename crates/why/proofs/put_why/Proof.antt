@@ -1,5 +1,5 @@
--- `why::put_why` meets its contract: a refusal, a box that is on no list and a reason have a line each, and the longest
--- has its place. Assumes nothing.
+-- `why::put_why` meets its contract: a refusal, a box that is on no list and a reason have a line each, and the
+-- longest has its place. Assumes nothing.
 use mathlib.Core.Path.{subst, sym}
 use native.Mathlib.Omega.{arith}
 use Rattle.listing.specs.Inside.{Put}
@@ -32,8 +32,10 @@ returns-2 c =
     let call = c .before .before in
     let other = call .before .before in
     let branch = other .before .before .before in
-    let put = call .put-not-listed .ensures in
-    (subst (Put _ _ _ _) (sym (line-not-listed _ (branch .if1 .left) (other .if2 .taken))) (put .0), omega (arith, put .1))
+    let put = call .put-not-listed .ensures in (
+      subst (Put _ _ _ _) (sym (line-not-listed _ (branch .if1 .left) (other .if2 .taken))) (put .0),
+      omega (arith, put .1),
+    )
 
 put-reason-requires : tie.Need-put-reason-requires
 put-reason-requires c κs = search needs
