@@ -103,10 +103,11 @@ print_text() {
     printf '%s' "$1" 2>/dev/null || fail "cannot write to standard output"
 }
 
-# pass_output NAME: runs the program crates/NAME, whose standard output may be long, or no text, and so goes straight to
-# the command's own. The command ends as the program says on standard error: nothing where all is well, and otherwise
-# one line. That is kept in `said`, by way of descriptor 4, with a mark behind it as above. Descriptor 3 is the
-# command's standard output, and 5 its standard error, where run-program tells what keeps the program from running.
+# pass_output NAME: runs the program crates/NAME, whose standard output may be long, or no text, and so goes straight
+# to the command's own. The command ends as the program says on standard error: nothing where all is well, and
+# otherwise one line. That is kept in `said`, by way of descriptor 4, with a mark behind it as above. Descriptor 3 is
+# the command's standard output, and 5 its standard error, where run-program tells what keeps the program from
+# running.
 pass_output() {
     {
         said=$(

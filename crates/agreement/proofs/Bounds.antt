@@ -94,7 +94,8 @@ unfolding sum count any build find member setOf places support before best most 
     placeFrom place2 place3 sends hears heard1 heard2 column2 voted heard3 column3 confidence gradeRow sentTo
     messages gradedRows confidences newRow newList entry nextRun soundZero startRow startRefusal startRun
     startReply badPlace badEntry tooManySent noReasons reasonFrom reasonIn reasonAt listedBy kept
-    withoutIteration unlisted notYetDone confidenceAbove1 unfit badReason badReasons badState iterateRefusal iterateReply after
+    withoutIteration unlisted notYetDone confidenceAbove1 unfit badReason badReasons badState
+    iterateRefusal iterateReply after
 bounds-needed =
     record {
       too-few-iterations =

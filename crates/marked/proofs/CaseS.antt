@@ -112,7 +112,8 @@ unfolding sum count any build find member setOf places support before best most 
     placeFrom place2 place3 sends hears heard1 heard2 column2 voted heard3 column3 supportFor confidence gradeRow
     sentTo messages entry gradedRows confidences newRow newList reasonFrom reasonIn reasonAt reasonsOf joined
     joinsNow reasonNow newReason nextRun startRow startRefusal startRun startReply noReasons badEntry badPlace
-    tooManySent listedBy kept withoutIteration unlisted notYetDone confidenceAbove1 unfit badReason badReasons badState iterateRefusal
+    tooManySent listedBy kept withoutIteration unlisted notYetDone confidenceAbove1 unfit badReason badReasons
+    badState iterateRefusal
     iterateReply after
 after-1 = refl
 
@@ -121,7 +122,8 @@ unfolding sum count any build find member setOf places support before best most 
     soundZero tableRows carried voteOf supportOf confidenceAt confidenceOf gradedRow counted chosenRow place1
     placeFrom place2 place3 sends hears heard1 heard2 column2 voted heard3 column3 supportFor confidence gradeRow
     sentTo messages entry gradedRows confidences newRow newList reasonFrom reasonIn reasonAt reasonsOf joined
-    joinsNow reasonNow newReason nextRun badEntry badPlace tooManySent listedBy kept withoutIteration unlisted notYetDone
+    joinsNow reasonNow newReason nextRun badEntry badPlace tooManySent listedBy kept withoutIteration unlisted
+    notYetDone
     confidenceAbove1 unfit badReason badReasons badState iterateRefusal iterateReply
 last-from-first = refl
 

@@ -86,7 +86,7 @@ use Rattle.run.specs.State.{
   iterateReply,
   after,
 }
-use Rattle.run.specs.Why.{overdone, noBox, notAsked, whyRefusal, whyReply}
+use Rattle.run.specs.Why.{noBox, notAsked, whyRefusal, whyReply}
 use Rattle.sizes.specs.Sizes.{largestT}
 use Rattle.runfile.specs.File.{
   number,
@@ -144,7 +144,7 @@ use Rattle.listing.specs.Listing.{
   outcomeOf,
   listingOf,
 }
-use Rattle.run.specs.State.{zeros}
+use Rattle.run.specs.State.{zeros, overdone}
 use Rattle.marked.specs.Cases.{Hold, shown, says, saysOf3, marked}
 use Rattle.marked.proofs.CaseS.{after-1, after-2}
 
@@ -168,7 +168,8 @@ unfolding sum count any build find member setOf places support before best most 
     voteRefusal sizeRefusal unless voteReply gradeReply place1 placeFrom place2 place3 sends hears heard1 heard2
     column2 voted heard3 column3 supportFor confidence gradeRow sentTo messages entry gradedRows confidences newRow
     newList nextRun startRow startRefusal startRun startReply badEntry badPlace tooManySent noReasons reasonFrom
-    reasonIn reasonAt reasonsOf joined joinsNow reasonNow newReason listedBy kept withoutIteration unlisted notYetDone confidenceAbove1
+    reasonIn reasonAt reasonsOf joined joinsNow reasonNow newReason listedBy kept withoutIteration unlisted
+    notYetDone confidenceAbove1
     unfit badReason badReasons badState iterateRefusal iterateReply after largestT number hasMark versionOf nOf
     tByte faultyOf tOf headingBytes rowFrom headingRow tableRow headingTests headingRefusal headingOf nothingRead
     headingReply tableTests tableRefusal tens decimal field fields lineOf orElse tableBytes tableBegins bytesOf

@@ -170,7 +170,8 @@ unfolding sum count any build find member setOf places support before best most 
     placeFrom place2 place3 sends hears heard1 heard2 column2 voted heard3 column3 confidence gradeRow supportFor
     sentTo messages entry gradedRows confidences newRow newList nextRun startRow startRefusal startRun startReply
     badEntry badPlace tooManySent noReasons reasonFrom reasonIn reasonAt reasonsOf joined joinsNow reasonNow
-    newReason listedBy kept withoutIteration unlisted notYetDone confidenceAbove1 unfit badReason badReasons badState iterateRefusal
+    newReason listedBy kept withoutIteration unlisted notYetDone confidenceAbove1 unfit badReason badReasons
+    badState iterateRefusal
     iterateReply after fixedRow firstOnly invented runBy
 computed-by v number =
     record {

@@ -126,8 +126,8 @@ marked =
     Case.gives (graded (caseS 0 .run) liesOfS 1 3) (20 ∷ 1 ∷ 2 ∷ []) ∷
     Case.gives (graded (caseS 0 .run) liesOfS 0 3) (0 ∷ 0 ∷ 1 ∷ []) ∷
     Case.gives (graded (caseS 0 .run) liesOfS 2 3) (0 ∷ 0 ∷ 1 ∷ []) ∷
-    -- why box 4 is listed, after the whole run: since iteration 1, by boxes 1 and 3 with confidence 0 and support 1, by
-    -- box 2 with confidence 1 and support 2
+    -- why box 4 is listed, after the whole run: since iteration 1, by boxes 1 and 3 with confidence 0 and support 1,
+    -- by box 2 with confidence 1 and support 2
     Case.gives (says (caseS 2) 1 4) (0 ∷ 1 ∷ 0 ∷ 1 ∷ []) ∷
     Case.gives (says (caseS 2) 2 4) (0 ∷ 1 ∷ 1 ∷ 2 ∷ []) ∷
     Case.gives (says (caseS 2) 3 4) (0 ∷ 1 ∷ 0 ∷ 1 ∷ []) ∷

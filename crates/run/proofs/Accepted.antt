@@ -46,7 +46,7 @@ module _ (s : Run) where
   unfolding badState
   good-reasons h = or-false-right (any 13 (badPlace s) || tooManySent s) (any 13 (badReasons s)) h
 
-  good-state : Legal s → badState s ≡ false
+  pub good-state : Legal s → badState s ≡ false
   unfolding badState
   good-state l = or-none (or-none (l .pass14-places) (l .pass14-sent)) (l .pass14-reasons)
 

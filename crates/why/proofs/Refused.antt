@@ -4,11 +4,10 @@
 use mathlib.Core.Path.{_≡_, refl, sym, ap, ap₂, subst, _∙_}
 use mathlib.Core.Bool.{Bool, cond, _||_}
 use mathlib.Core.List.{List}
-use Prim.Native.Nat.{ℕ, _+_, _-_, _≤_}
+use Prim.Native.Nat.{ℕ, _+_, _-_}
 use native.Mathlib.Nat.{le-refl}
 use native.Mathlib.Decide.{ℕ-discrete}
-use native.Mathlib.Omega.{arith}
-use borrow.Author.Tests.{eq-eqb, le-ltb}
+use borrow.Author.Tests.{eq-eqb}
 use Rattle.counting.specs.Refuse.{firstOf}
 use Rattle.counting.specs.Sets.{member}
 use Rattle.counting.proofs.Bools.{cond-true}
@@ -17,7 +16,7 @@ use Rattle.sizes.specs.Sizes.{tableRows}
 use Rattle.run.specs.declared.Run.{Run}
 use Rattle.run.specs.declared.Why.{Why}
 use Rattle.run.specs.Legal.{Legal}
-use Rattle.run.specs.Why.{overdone, noBox, notAsked, whyRefusal, whyReply}
+use Rattle.run.specs.Why.{noBox, notAsked, whyRefusal, whyReply}
 use Rattle.run.proofs.Accepted.{good-state}
 use Rattle.run.proofs.Course.{Reached, reached}
 use Rattle.runfile.specs.File.{tableRow}
@@ -37,11 +36,10 @@ noQuestion bytes asked listed =
     noBox (h .n) asked || member (h .faulty) (asked - 1) || noBox (h .n) listed
 
 -- a legal state is refused by 15 alone
-by-15 : (s : Run) (asked listed : ℕ) → Legal s → s .done ≤ s .t + 1 →
+by-15 : (s : Run) (asked listed : ℕ) → Legal s →
     whyRefusal s asked listed ≡ cond (notAsked s asked || noBox (s .n) listed) 15 0
-unfolding whyRefusal firstOf overdone
-by-15 s asked listed l few =
-    rw (l .pass4, l .pass5, l .pass6, l .pass9, le-ltb (s .t + 1) (s .done) few, good-state s l) refl
+unfolding whyRefusal firstOf
+by-15 s asked listed l = rw (l .pass4, l .pass5, l .pass6, l .pass9, l .pass14-done, good-state s l) refl
 
 module _ (bytes : List ℕ) where
   -- a file that is taken
@@ -66,7 +64,6 @@ module _ (bytes : List ℕ) where
     last-15 asked listed =
         let r = arrived in
         by-15 (outcomeOf bytes .run) asked listed (r .legal)
-        (omega (arith, r .done-m, r .same-t, passed-most (refusedAt bytes) (due bytes)))
         ∙ ap₂
         (λ (n faulty : ℕ). cond (noBox n asked || member faulty (asked - 1) || noBox n listed) 15 0)
         (r .same-n) (r .same-faulty)

@@ -11,7 +11,7 @@ use native.Mathlib.Decide.{ℕ-discrete}
 use native.Mathlib.Omega.{arith}
 use lib.Dec.{eqb, leb, ltb}
 use lib.ListN.{length, length-append}
-use borrow.Author.Tests.{leb-false, le-ltb}
+use borrow.Author.Tests.{leb-false, ltb-false, le-ltb}
 use Rattle.counting.specs.Count.{sum}
 use Rattle.counting.specs.Refuse.{Refusal, firstOf}
 use Rattle.counting.specs.Refuse.Refusal.{refuse}
@@ -23,7 +23,7 @@ use Rattle.run.specs.declared.Reason.{Reason}
 use Rattle.run.specs.declared.Run.{Run}
 use Rattle.run.specs.declared.Why.{Why}
 use Rattle.run.specs.Iteration.{noReason, reasonAt}
-use Rattle.run.specs.State.{listedBy}
+use Rattle.run.specs.State.{listedBy, overdone}
 use Rattle.run.specs.Why.{whyRefusal, whyReply}
 use Rattle.run.proofs.Accepted.{Askable, is-askable, is-number}
 use Rattle.run.proofs.Closed.{legal-listing, legal-none}
@@ -112,10 +112,14 @@ module _ (s : Run) (asked listed : ℕ) (ok : whyRefusal s asked listed ≡ 0) w
   t-few =
       omega (arith, inside-high (s .n) (a .legal .pass4), tolerated-lt (s .n) (s .t) (a .legal .pass5))
 
+  done-few : s .done ≤ s .t + 1
+  unfolding overdone
+  done-few = ltb-false (s .t + 1) (s .done) (a .legal .pass14-done)
+
   listing-small : (r : Reason) → Listing (s .t) (s .done) r → Small r
   listing-small r l =
       record {
-        iteration = omega (arith, l .is-done, a .done-few, t-few);
+        iteration = omega (arith, l .is-done, done-few, t-few);
         confidence = l .at-most-1;
         support = omega (arith, support-few (s .t) (r .support) (omega (arith, l .fitting, l .at-most-1)), t-few);
       }

@@ -1,5 +1,5 @@
--- `replies::state_numbers` is safe and ends: there are 538 numbers throughout. The measure is the number of boxes left.
--- Assumes nothing.
+-- `replies::state_numbers` is safe and ends: there are 538 numbers throughout. The measure is the number of boxes
+-- left. Assumes nothing.
 use Prim.Native.Nat.{_-_}
 use mathlib.Core.Path.{_≡_}
 use lib.ListN.{length}
