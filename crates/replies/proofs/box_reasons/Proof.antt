@@ -8,7 +8,8 @@ use Rattle.replies.proofs.box_reasons.Statement.{statement}
 use Rattle.replies.proofs.box_reasons.Tie as tie
 
 abbrev Inv-loop : tie.InvT-loop
-Inv-loop bytes at iterations₀ confidences₀ supports₀ p₀ iterations confidences supports p = (length iterations ≡ 169) × (length confidences ≡ 169) × (length supports ≡ 169)
+Inv-loop bytes at iterations₀ confidences₀ supports₀ p₀ iterations confidences supports p =
+    (length iterations ≡ 169) × (length confidences ≡ 169) × (length supports ≡ 169)
 
 abbrev μ-loop : tie.MeasureT-loop
 μ-loop bytes at iterations₀ confidences₀ supports₀ p₀ iterations confidences supports p = 169 - p

@@ -1,5 +1,5 @@
--- `replies::print_state` is safe and ends: there are 542 numbers throughout, and the reply has at most 4. The measure is
--- the number of the state's numbers left. Assumes nothing.
+-- `replies::print_state` is safe and ends: there are 542 numbers throughout, and the reply has at most 4. The measure
+-- is how many of the state's numbers are left. Assumes nothing.
 use Prim.Native.Nat.{_-_}
 use mathlib.Core.Path.{_≡_}
 use lib.ListN.{length}
