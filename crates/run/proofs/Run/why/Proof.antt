@@ -1,7 +1,7 @@
 -- `run::Run::why` meets its contract: it refuses with no reason, and otherwise reads the three parts at the place of
 -- the two boxes. Assumes nothing.
 use mathlib.Core.Path.{_≡_, refl, sym, _∙_}
-use Prim.Native.Nat.{_+_, _-_, _*_, _≤_, _<_}
+use Prim.Native.Nat.{_-_, _≤_}
 use native.Mathlib.Omega.{arith}
 use Rattle.sizes.proofs.Laws.{inside-high}
 use Rattle.run.specs.Iteration.{noReason, reasonFrom, reasonIn, reasonAt}
@@ -31,47 +31,37 @@ taken : (c : tie.Else1) →
     Askable (a .self) (a .asked) (a .listed)
 taken c = is-askable _ _ _ (not-refused c)
 
--- both numbers are at least 1, and their place is one of the 169
-asked-from-1 : (c : tie.Else1) → 1 ≤ c .before .before .args .asked
-asked-from-1 c = is-number (taken c .asked-box) .0
-
-listed-from-1 : (c : tie.Else1) → 1 ≤ c .before .before .args .listed
-listed-from-1 c = is-number (taken c .listed-box) .0
-
-place-in : (c : tie.Else1) →
+-- both numbers are 1 to 13, so the place is one of the 169
+bounds : (c : tie.Else1) →
     let a = c .before .before .args in
-    13 * (a .asked - 1) + (a .listed - 1) < 169
-place-in c =
+    (1 ≤ a .asked) × (a .asked ≤ 13) × (1 ≤ a .listed) × (a .listed ≤ 13)
+bounds c =
     let t = taken c in
-    omega (
-      arith,
-      is-number (t .asked-box),
-      is-number (t .listed-box),
-      asked-from-1 c,
-      listed-from-1 c,
-      inside-high _ (t .legal .pass4),
-    )
+    let high = inside-high _ (t .legal .pass4) in
+    let one = is-number (t .asked-box) in
+    let two = is-number (t .listed-box) in
+    (one .0, omega (arith, one .1, high), two .0, omega (arith, two .1, high))
 
 sub-place : tie.Need-sub-place
-sub-place c = asked-from-1 c
+sub-place c = let b = bounds c in omega (arith, b .0, b .2)
 
 mul-place : tie.Need-mul-place
-mul-place c = let l = place-in c in omega arith
+mul-place c = let b = bounds c in omega (arith, b .0, b .1, b .2, b .3)
 
 sub-place-2 : tie.Need-sub-place-2
-sub-place-2 c = listed-from-1 c
+sub-place-2 c = let b = bounds c in omega (arith, b .0, b .2)
 
 add-place : tie.Need-add-place
-add-place c = let l = place-in c in omega arith
+add-place c = let b = bounds c in omega (arith, b .0, b .1, b .2, b .3)
 
 element-copy-out-t17 : tie.Need-element-copy-out-t17
-element-copy-out-t17 c = place-in (c .before)
+element-copy-out-t17 c = let b = bounds (c .before) in omega (arith, b .0, b .1, b .2, b .3)
 
 element-copy-out-t20 : tie.Need-element-copy-out-t20
-element-copy-out-t20 c = place-in (c .before .before)
+element-copy-out-t20 c = let b = bounds (c .before .before) in omega (arith, b .0, b .1, b .2, b .3)
 
 element-copy-out-t23 : tie.Need-element-copy-out-t23
-element-copy-out-t23 c = place-in (c .before .before .before)
+element-copy-out-t23 c = let b = bounds (c .before .before .before) in omega (arith, b .0, b .1, b .2, b .3)
 
 returns-2 : tie.Need-returns-2
 unfolding reasonAt reasonIn reasonFrom
