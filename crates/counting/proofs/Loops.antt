@@ -30,14 +30,14 @@ Filled m f xs k out = (k ≤ m) × (out ≡ front k f xs)
 pub fill-begins : {m : ℕ} (f : ℕ → ℕ) (xs : List ℕ) → Filled m f xs 0 xs
 fill-begins f xs = (omega arith, front-none f xs)
 
-pub fill-turn : {m k v : ℕ} (f : ℕ → ℕ) (xs : List ℕ) {out : List ℕ} → m ≤ length xs → Filled m f xs k out → k < m →
-    v ≡ f k → Filled m f xs (k + 1) (set out k v)
+pub fill-turn : {m k v : ℕ} (f : ℕ → ℕ) (xs : List ℕ) {out : List ℕ} → m ≤ length xs →
+    Filled m f xs k out → k < m → v ≡ f k → Filled m f xs (k + 1) (set out k v)
 fill-turn {k = k} f xs {out = out} room filled l e =
     (omega (arith, l), front-turn k f xs out (omega (arith, room, l)) (filled .1) e)
 
 -- the list keeps its length
-pub fill-length : {m k : ℕ} (f : ℕ → ℕ) (xs : List ℕ) {out : List ℕ} → m ≤ length xs → Filled m f xs k out →
-    length out ≡ length xs
+pub fill-length : {m k : ℕ} (f : ℕ → ℕ) (xs : List ℕ) {out : List ℕ} → m ≤ length xs →
+    Filled m f xs k out → length out ≡ length xs
 fill-length {k = k} f xs room filled = ap length (filled .1) ∙ front-length k f xs (omega (arith, room, filled .0))
 
 -- its first m places are filled
@@ -47,8 +47,8 @@ fill-fronts {m = m} f xs filled l =
     ap (take m) (front-whole f xs (at-end (filled .0) l) (filled .1)) ∙ front-take m f xs
 
 -- all of it is filled
-pub fill-ends : {m k : ℕ} (f : ℕ → ℕ) (xs : List ℕ) {out : List ℕ} → length xs ≡ m → Filled m f xs k out → m ≤ k →
-    out ≡ build m f
+pub fill-ends : {m k : ℕ} (f : ℕ → ℕ) (xs : List ℕ) {out : List ℕ} → length xs ≡ m →
+    Filled m f xs k out → m ≤ k → out ≡ build m f
 fill-ends {m = m} f xs whole filled l =
     front-all f xs m whole (front-whole f xs (at-end (filled .0) l) (filled .1))
 

@@ -1,11 +1,12 @@
 -- The entry of a place: what the test "one of the n boxes, and sound" says of it. Assumes nothing.
-use mathlib.Core.Path.{_≡_, sym, _∙_}
+use mathlib.Core.Path.{_≡_, refl, sym, _∙_}
+use mathlib.Core.List.{List}
 use mathlib.Core.Bool.{true, false, not, _&&_, _||_}
 use Prim.Native.Nat.{ℕ, _≤_, _<_}
 use lib.Dec.{eqb, ltb}
-use lib.ListN.{getD}
+use lib.ListN.{getD, replicate, getD-replicate}
 use borrow.Author.Tests.{eqb-true, ltb-true, le-ltb}
-use Rattle.counting.specs.Count.{any}
+use Rattle.counting.specs.Count.{any, build}
 use Rattle.counting.specs.Sets.{member}
 use Rattle.counting.proofs.Bools.{
   and-left,
@@ -18,6 +19,7 @@ use Rattle.counting.proofs.Bools.{
   cond-false,
 }
 use Rattle.counting.proofs.Count.{any-none}
+use Rattle.counting.proofs.Loops.{Filled, fill-rest}
 use Rattle.sizes.specs.Sizes.{sound, stray}
 use Rattle.run.specs.declared.Run.{Run}
 use Rattle.run.specs.Iteration.{entry}
@@ -50,6 +52,12 @@ module _ (n faulty k : ℕ) where
       not (eqb row 0) || not (eqb list 0) ≡ badEntry n faulty k row list
   unfolding badEntry
   bad-none row list h = sym (cond-false (stray n list) (not (eqb row 0) || not (eqb list 0)) h)
+
+-- a loop that has filled the n places of the boxes has filled all thirteen, where those above hold 0
+pub places-filled : {n k : ℕ} (f : ℕ → ℕ) {out : List ℕ} → n ≤ 13 → ((q : ℕ) → n ≤ q → 0 ≡ f q) →
+    Filled n f (replicate 13 0) k out → n ≤ k → out ≡ build 13 f
+places-filled f high none =
+    fill-rest 13 f (replicate 13 0) high refl (λ q h l. getD-replicate 13 q 0 0 l ∙ none q h)
 
 -- in a state whose places are good, the list of a place without a sound box is empty
 pub no-list : (s : Run) → any 13 (badPlace s) ≡ false → (i : ℕ) → i < 13 →

@@ -65,7 +65,7 @@ capped-digit value digit = go (ltb value 256) refl
         ∙ sym (capped-large (value * 10 + digit) (omega (arith, l)))
 
 -- and all the digits that follow
-pub capped-read : (value : ℕ) (text : List ℕ) → capped (readOn (capped value) text) ≡ capped (readOn value text)
+capped-read : (value : ℕ) (text : List ℕ) → capped (readOn (capped value) text) ≡ capped (readOn value text)
 unfolding readOn
 capped-read value [] = capped-small (capped value) (capped-most value)
 capped-read value (byte ∷ text) =

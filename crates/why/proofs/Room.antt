@@ -94,7 +94,7 @@ support-few t support h = go (leb (2 * t + 1) support) refl
     go false e = omega (arith, leb-false (2 * t + 1) support e)
 
 -- a reason has one digit in each place
-pub record Small (r : Reason) : Type 0 where
+record Small (r : Reason) : Type 0 where
   pub iteration : r .iteration ≤ 5
   pub confidence : r .confidence ≤ 1
   pub support : r .support ≤ 8
@@ -124,7 +124,7 @@ module _ (s : Run) (asked listed : ℕ) (ok : whyRefusal s asked listed ≡ 0) w
         support = omega (arith, support-few (s .t) (r .support) (omega (arith, l .fitting, l .at-most-1)), t-few);
       }
 
-  pub reason-small : Small (reasonAt s (asked - 1) (listed - 1))
+  reason-small : Small (reasonAt s (asked - 1) (listed - 1))
   reason-small =
       let high = inside-high (s .n) (a .legal .pass4) in
       let li : asked - 1 < 13 = omega (arith, is-number (a .asked-box) .0, is-number (a .asked-box) .1, high) in
