@@ -1,4 +1,6 @@
 // Steps 1 to 4 of one iteration, for every box at once. Boxes and leaders count from 0.
+#![tactic(auto)]
+
 ghost use Rattle.std.specs.Prelude.{◌≡◌, cond, not, ◌&&◌, ◌+◌, ◌-◌, ◌*◌, ◌<◌, ◌≤◌, eqb, length, get_or, replicate};
 ghost use Rattle.counting.specs.Count.{count, front};
 ghost use Rattle.counting.specs.Sets.{member};
@@ -50,7 +52,7 @@ ghost use Rattle.gradecast.specs.Inside.{
 
 // What all boxes make of all leaders: the messages of steps 1 to 3, and the row, the confidence and the support that
 // box i has for leader k at place i * n + k; 0 in a faulty box's place.
-#[derive(Drop)]
+#[derive(Clone, Copy)]
 pub struct Cast {
     pub refusal: u8,
     pub sent: u64,
@@ -60,7 +62,7 @@ pub struct Cast {
 }
 
 // What a call sets for all boxes: how many there are, how many may be faulty, and which are.
-#[derive(Drop)]
+#[derive(Clone, Copy)]
 pub struct Settings {
     pub n: usize,
     pub t: u8,
@@ -69,7 +71,7 @@ pub struct Settings {
 
 // What is the same for all boxes of one call: the settings; how many boxes are sound; which are faulty or on some
 // list; and the leaders that every box must count, in steps 3 and 4 alike.
-#[derive(Drop)]
+#[derive(Clone, Copy)]
 struct Hall {
     settings: Settings,
     many: u8,
@@ -78,14 +80,14 @@ struct Hall {
 }
 
 // Box i of the hall.
-#[derive(Drop)]
+#[derive(Clone, Copy)]
 struct Seat {
     hall: Hall,
     i: usize,
 }
 
 // What a box finds for a leader in step 4. The confidence follows from the support.
-#[derive(Drop)]
+#[derive(Clone, Copy)]
 struct Found {
     row: u64,
     support: u8,

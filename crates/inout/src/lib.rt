@@ -1,4 +1,6 @@
 // What the programs share: standard input read in pieces, and a line of text printed.
+#![tactic(auto)]
+
 ghost use Rattle.std.specs.Prelude.{◌≡◌, ◌+◌, ◌-◌, ◌≤◌, ◌<◌, length, take, drop};
 ghost use Rattle.lines.specs.Line.{line_writes};
 

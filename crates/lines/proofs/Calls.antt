@@ -8,6 +8,7 @@ use Prim.Native.Nat.{ℕ, ◌-◌, ◌≤◌, ◌<◌}
 use native.Mathlib.Decide.{dec_lt}
 use native.Mathlib.Omega.{arith}
 use denote.Ref.{Bor}
+use denote.MutBor.{MutBor}
 use lib.ListN.{length, take}
 use lib.Seq.{take-take}
 use Rattle.lines.specs.declared.Written.{Written}
@@ -87,17 +88,20 @@ read_back {out} {word} {numbers} {written} {slice} {last} {w} {r} c e h d l =
 abbrev lent : List ℕ → Bor (List ℕ)
 lent numbers = record { ref_ptr = (0, 0); now = numbers }
 
+abbrev lent_mut : List ℕ → MutBor (List ℕ)
+lent_mut numbers = record { ref_ptr = (0, 0); ghost_name = 0; now = numbers }
+
 pub write_call : (out word numbers : List ℕ) →
     WriteCall out word numbers (line_reply word numbers (length out)) (line_writes word numbers out)
 write_call out word numbers =
-    WriteCall.call ([], ([], ([], tt))) (lent out, (lent word, (lent numbers, tt)))
+    WriteCall.call ([], ([], ([], tt))) (lent_mut out, (lent word, (lent numbers, tt)))
     (line_reply word numbers (length out))
-    (lent (line_writes word numbers out), (lent word, (lent numbers, tt)))
+    (lent_mut (line_writes word numbers out), (lent word, (lent numbers, tt)))
     (refl, refl)
 
 pub read_call : (line slice : List ℕ) →
     ReadCall line slice (read_reply line (length slice)) (read_writes line slice)
 read_call line slice =
-    ReadCall.call ([], ([], tt)) (lent line, (lent slice, tt)) (read_reply line (length slice))
-    (lent line, (lent (read_writes line slice), tt))
+    ReadCall.call ([], ([], tt)) (lent line, (lent_mut slice, tt)) (read_reply line (length slice))
+    (lent line, (lent_mut (read_writes line slice), tt))
     (refl, refl)

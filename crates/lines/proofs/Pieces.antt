@@ -11,7 +11,6 @@ use lib.Dec.{eqb, ltb}
 use lib.ListN.{length, get_or, take, drop, length-take, drop_of_length-le}
 use lib.Seq.{drop-cons, take-length, length-take-le}
 use borrow.Author.Tests.{lt-ltb, le-ltb, ltb-true, eq-eqb, ne_eqb}
-use Rattle.bytes.specs.Bytes.{index_of, index_after}
 use Rattle.counting.proofs.Bools.{cond_true, cond_false, and_left, and_right, not_both}
 use Rattle.lines.specs.Read.{bare, piece, behind, word_in, said_in, are_numbers, is_line}
 
@@ -35,17 +34,6 @@ piece_front (byte ∷ text) = go (eqb byte 32) (piece_front text)
         take (length (cond b [] (byte ∷ piece text))) (byte ∷ text) ≡ cond b [] (byte ∷ piece text)
     go true h = refl
     go false h = ap (λ (bytes : List ℕ). byte ∷ bytes) h
-
--- it ends where `bytes::find` finds a space
-pub piece_index : (text : List ℕ) → index_of 32 text ≡ length (piece text)
-unfolding piece index_of index_after
-piece_index [] = refl
-piece_index (byte ∷ text) = go (eqb byte 32) (piece_index text)
-  where
-    go : (b : Bool) → index_of 32 text ≡ length (piece text) →
-        index_after b (index_of 32 text) ≡ length (cond b [] (byte ∷ piece text))
-    go true h = refl
-    go false h = ap suc h
 
 -- behind it no further piece begins until the next space
 pub piece_past : (text : List ℕ) → piece (drop (length (piece text)) text) ≡ []

@@ -1,5 +1,7 @@
 // The lines of text: a word and numbers in decimal, written at the front of a lent slice, and read.
-ghost use Rattle.std.specs.Prelude.{◌≡◌, true, ◌&&◌, ◌+◌, ◌-◌, ◌*◌, ◌^◌, ◌≤◌, ltb, length, take, drop};
+#![tactic(auto)]
+
+ghost use Rattle.std.specs.Prelude.{◌≡◌, true, ◌&&◌, ◌+◌, ◌-◌, ◌*◌, ◌^◌, ◌≤◌, ◌++◌, ltb, min, length, take, drop};
 ghost use Rattle.lines.specs.Line.{
   decimal,
   field,
@@ -25,7 +27,7 @@ ghost use Rattle.lines.specs.Read.{
 };
 
 // The reply of a line: the refusal's number, or 0 with the number of bytes written.
-#[derive(Drop)]
+#[derive(Clone, Copy)]
 pub struct Written {
     pub refusal: u8,
     pub size: usize,
@@ -82,7 +84,17 @@ fn put_digits(out: &mut [u8], at: usize, n: u64) -> usize
     }
     let mut digits = [0u8; 20];
     let size = io::decimal(n, &mut digits);
-    at + bytes::copy(&digits[..size], &mut out[at..])
+    at + copy(&digits[..size], &mut out[at..])
+}
+
+// Copies bytes to the front of a slice, as many as have room, and gives their number. The rest of the slice stays.
+pub fn copy(bytes: &[u8], out: &mut [u8]) -> usize
+    ensures value { result ≡ min (length bytes.now) (length out.old) }
+    ensures out_after { out.new ≡ take result bytes.now ++ drop result out.old }
+{
+    let size = bytes.len().min(out.len());
+    out[..size].copy_from_slice(&bytes[..size]);
+    size
 }
 
 // Writes a space and the digits of n at a place of the slice, and gives the place behind them.
@@ -122,7 +134,7 @@ pub fn write_line(out: &mut [u8], word: &[u8], numbers: &[u64]) -> Written
             size: 0,
         };
     }
-    let place = bytes::copy(word, out);
+    let place = copy(word, out);
     let end = put_numbers(out, place, numbers);
     out[end] = b'\n';
     let size = end + 1;
@@ -153,7 +165,7 @@ pub fn put_line(text: &mut [u8], at: usize, word: &[u8], numbers: &[u64]) -> usi
 
 // The reply of a line that is read: the refusal's number, or 0 with the length of the word and how many numbers there
 // are.
-#[derive(Drop)]
+#[derive(Clone, Copy)]
 pub struct Words {
     pub refusal: u8,
     pub word: usize,
@@ -161,14 +173,14 @@ pub struct Words {
 }
 
 // A number with one more digit, where it is a digit and the number stays below 2⁶⁴.
-#[derive(Drop)]
+#[derive(Clone, Copy)]
 struct Longer {
     good: bool,
     value: u64,
 }
 
 // What stands before the next space or the end, read as a number: where it ends, and its value.
-#[derive(Drop)]
+#[derive(Clone, Copy)]
 struct Piece {
     good: bool,
     next: usize,
@@ -176,7 +188,7 @@ struct Piece {
 }
 
 // How many numbers a line has, where it is a word and numbers.
-#[derive(Drop)]
+#[derive(Clone, Copy)]
 struct Found {
     good: bool,
     count: usize,
@@ -312,6 +324,20 @@ fn take_numbers(line: &[u8], word: usize, numbers: &mut [u64])
     }
 }
 
+// Where the first piece of a line ends: at its first space, or where the line ends.
+fn word_size(line: &[u8]) -> usize
+    ensures { result ≡ length (word_in line.now) }
+{
+    let mut at: usize = 0;
+    while at < line.len() {
+        if line[at] == b' ' {
+            return at;
+        }
+        at += 1;
+    }
+    at
+}
+
 // Reads a line that is given without its newline: a word, and numbers behind spaces, which are written at the front of
 // the slice. Refusal 10.
 pub fn read_line(line: &[u8], numbers: &mut [u64]) -> Words
@@ -319,7 +345,7 @@ pub fn read_line(line: &[u8], numbers: &mut [u64]) -> Words
     ensures numbers_after { numbers.new ≡ read_writes line.now numbers.old }
 {
     let end = bare_size(line);
-    let word = bytes::scan::find(line, 0, end, b' ');
+    let word = word_size(&line[..end]);
     let found = find_numbers(&line[..end], word);
     if !found.good {
         return Words {

@@ -6,7 +6,7 @@ use mathlib.Core.List.{List, []}
 use Prim.Native.Nat.{ℕ, ◌≤◌}
 use lib.Dec.{ltb}
 use lib.ListN.{length}
-use Rattle.tally.proofs.Calls.{lent}
+use Rattle.tally.proofs.Calls.{lent, lent_mut}
 use Rattle.gradecast.specs.Fair.{faulty_boxes}
 use Rattle.run.specs.declared.Next.{Next}
 use Rattle.lines.specs.Line.{placed}
@@ -63,8 +63,8 @@ list_call_is (ListCall.call κs a r x p) = p
 pub list_call : (bytes slice : List ℕ) →
     ListCall bytes slice (list_reply bytes (length slice)) (list_writes bytes slice)
 list_call bytes slice =
-    ListCall.call ([], ([], tt)) (lent bytes, (lent slice, tt)) (list_reply bytes (length slice))
-    (lent bytes, (lent (list_writes bytes slice), tt)) (refl, refl)
+    ListCall.call ([], ([], tt)) (lent bytes, (lent_mut slice, tt)) (list_reply bytes (length slice))
+    (lent bytes, (lent_mut (list_writes bytes slice), tt)) (refl, refl)
 
 module _ (a b : List ℕ) (same : SameButSound a b) where
   ends_same : ends_with a ≡ ends_with b

@@ -1,5 +1,7 @@
 // The listing of a whole run file, from its bytes to the text, and the state in which its run ends. Boxes count from
 // 0.
+#![tactic(auto)]
+
 ghost use Rattle.std.specs.Prelude.{◌≡◌, true, cond, ◌+◌, ◌≤◌, ◌<◌, ltb, length, []};
 ghost use Rattle.counting.specs.Sets.{member};
 ghost use Rattle.sizes.specs.Sizes.{sound};
@@ -39,7 +41,7 @@ const TEXT_BYTES: usize = 2449;
 
 // The reply of a listing: the refusal's number, or 0 with the number of bytes written and the refusal with which the
 // listing ends, 0 where it ends with `sent`.
-#[derive(Drop)]
+#[derive(Clone, Copy)]
 pub struct Listed {
     pub refusal: u8,
     pub size: usize,
@@ -47,7 +49,7 @@ pub struct Listed {
 }
 
 // The outcome of a file, and how much of the text is there.
-#[derive(Drop)]
+#[derive(Clone, Copy)]
 struct Told {
     last: Next,
     size: usize,
@@ -311,7 +313,7 @@ pub fn list(bytes: &[u8], out: &mut [u8]) -> Listed
             ends: 0,
         };
     }
-    bytes::copy(&text[..size], out);
+    lines::copy(&text[..size], out);
     Listed {
         refusal: 0,
         size,

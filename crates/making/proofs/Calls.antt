@@ -12,7 +12,7 @@ use lib.Dec.{leb}
 use lib.ListN.{length}
 use borrow.Author.Tests.{le-ltb}
 use Rattle.counting.proofs.Bools.{cond_true, cond_false}
-use Rattle.tally.proofs.Calls.{lent}
+use Rattle.tally.proofs.Calls.{lent, lent_mut}
 use Rattle.making.specs.declared.Maker.{Maker}
 use Rattle.making.specs.declared.Made.{Made}
 use Rattle.making.specs.Make.{no_text}
@@ -155,16 +155,16 @@ no_text_call = NoTextCall.call tt tt no_text tt refl
 pub take_call : (s : Reading) (piece : List ℕ) → TakeCall s piece (take_reply s.maker piece s.line s.file)
 take_call s piece =
     let r = take_reply s.maker piece s.line s.file in
-    TakeCall.call ([], ([], ([], tt))) (s.maker, (lent piece, (lent s.line, (lent s.file, tt)))) r.maker
-    (s.maker, (lent piece, (lent r.line, (lent r.file, tt)))) refl
+    TakeCall.call ([], ([], ([], tt))) (s.maker, (lent piece, (lent_mut s.line, (lent_mut s.file, tt)))) r.maker
+    (s.maker, (lent piece, (lent_mut r.line, (lent_mut r.file, tt)))) refl
 
 pub settled_call : (m : Maker) (line : List ℕ) → SettledCall m line (is_settled m line)
 settled_call m line = SettledCall.call ([], tt) (m, (lent line, tt)) (is_settled m line) (m, (lent line, tt)) refl
 
 pub finish_call : (s : Reading) → FinishCall s (reply_at s) (file_at s)
 finish_call s =
-    FinishCall.call ([], ([], tt)) (s.maker, (lent s.line, (lent s.file, tt))) (reply_at s)
-    (s.maker, (lent s.line, (lent (file_at s), tt))) (refl, refl)
+    FinishCall.call ([], ([], tt)) (s.maker, (lent s.line, (lent_mut s.file, tt))) (reply_at s)
+    (s.maker, (lent s.line, (lent_mut (file_at s), tt))) (refl, refl)
 
 take_calls : (pieces : List (List ℕ)) (s : Reading) → (last : Reading) × TakeCalls s pieces last
 take_calls [] s = (s, TakeCalls.none s)

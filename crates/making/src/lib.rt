@@ -1,5 +1,7 @@
 // Makes a run file from a text (docs/TEXT.md). A text of any length is taken in pieces; what is known of it so far is
 // in the maker, the unfinished line in one lent slice and the file in another.
+#![tactic(auto)]
+
 ghost use Rattle.std.specs.Prelude.{◌≡◌, List, ℕ, ◌≤◌, ◌<◌, min, length};
 ghost use Rattle.counting.specs.Count.{build};
 ghost use Rattle.runfile.specs.Write.{write_heading_refusal};
@@ -44,7 +46,7 @@ ghost use Rattle.making.specs.Text.{
 
 // What is known of a text so far. The stage says what is due: 0 the line `run`, 1 the line `rows`, 2 a line `say`;
 // from 3 on the outcome is settled, by a refusal or by a fault in the last of the lines.
-#[derive(Drop)]
+#[derive(Clone, Copy)]
 pub struct Maker {
     pub stage: u8,
     pub n: u8,
@@ -57,7 +59,7 @@ pub struct Maker {
 }
 
 // The outcome of a text: a refusal, or a fault and its line, or the size of the file.
-#[derive(Drop)]
+#[derive(Clone, Copy)]
 pub struct Made {
     pub refusal: u8,
     pub line: u64,

@@ -3,20 +3,22 @@
 // read that fails must not count as the end of the text.
 //
 // 182,633 bytes are the largest file, 1,001 one more than a line may have, and 110 enough for what is told.
+#![tactic(auto)]
+
 ghost use Rattle.std.specs.Prelude.{◌≡◌, ◌≤◌, length};
 ghost use Rattle.says.specs.Told.{told_text};
 
 use making::Maker;
 
 // What one read gave: whether it failed, and how many bytes came. None is the end of the text.
-#[derive(Drop)]
+#[derive(Clone, Copy)]
 struct Piece {
     failed: bool,
     size: usize,
 }
 
 // What was made of the text, and whether reading it failed.
-#[derive(Drop)]
+#[derive(Clone, Copy)]
 struct Taken {
     maker: Maker,
     failed: bool,

@@ -3,6 +3,8 @@
 //
 // 182,634 bytes are enough of any file: the largest has one less, and one more shows that a file goes on past its
 // last table. 182,520 bytes are enough for any part of a text, and 110 for what is told.
+#![tactic(auto)]
+
 ghost use Rattle.std.specs.Prelude.{◌≡◌, length};
 ghost use Rattle.says.specs.Told.{told_text};
 

@@ -4,6 +4,8 @@
 //
 // 20 bytes are enough for a box number, and 64 for a line. 182,634 bytes are enough of any file: the largest has one
 // less, and one more shows that a file goes on past its last table.
+#![tactic(auto)]
+
 ghost use Rattle.std.specs.Prelude.{◌≡◌, length};
 ghost use Rattle.why.specs.Answer.{answer_of};
 

@@ -1,6 +1,8 @@
 // Answers the requests of docs/REQUESTS.md: calls each public function of the library on any numbers and any bytes,
 // and prints every field of its reply and every place of what was lent to it. `inout::fill` and `inout::print_line`
 // have no requests of their own: all that is read and all that is printed goes through them.
+#![tactic(auto)]
+
 ghost use Rattle.std.specs.Prelude.{◌≡◌, ◌+◌, ◌*◌, ◌≤◌, ◌<◌, length};
 
 use gradecast::Cast;
@@ -252,7 +254,7 @@ fn print_bytes(text: &mut [u8], word: &[u8], reply: &[u64], lent: &[u8])
 }
 
 // The head of a vote, a grade or a choice: did all of it come, how many rows, and the byte behind their number.
-#[derive(Drop)]
+#[derive(Clone, Copy)]
 struct Head {
     whole: bool,
     count: usize,
@@ -372,7 +374,7 @@ fn answer_start(bytes: &mut [u8], rows: &mut [u64], text: &mut [u8]) -> bool
 }
 
 // What follows its number in a request, rows or bytes: did all of it come, and how many.
-#[derive(Drop)]
+#[derive(Clone, Copy)]
 struct Rest {
     whole: bool,
     count: usize,
@@ -468,7 +470,7 @@ fn answer_heading(bytes: &mut [u8], numbers: &mut [u64], text: &mut [u8]) -> boo
 }
 
 // The bytes for a reader: did all of them come, how many, and the length of the slice to lend.
-#[derive(Drop)]
+#[derive(Clone, Copy)]
 struct Reading {
     whole: bool,
     size: usize,
@@ -600,7 +602,7 @@ fn answer_sizes(kind: u8, bytes: &mut [u8], text: &mut [u8]) -> bool
 }
 
 // What steps 1 to 4 are asked with, but for the table.
-#[derive(Drop)]
+#[derive(Clone, Copy)]
 struct Asked {
     n: usize,
     t: u8,
@@ -669,7 +671,7 @@ fn answer_steps(bytes: &mut [u8], rows: &mut [u64], text: &mut [u8]) -> bool
 
 // What a line is asked with: did all of it come, the length of the slice to lend, the bytes of the word, which stands
 // at the front of the bytes, and how many numbers, which stand at the front of the numbers.
-#[derive(Drop)]
+#[derive(Clone, Copy)]
 struct Line {
     whole: bool,
     room: usize,

@@ -1,5 +1,7 @@
 // The run state, its start, one iteration, and why a box is on a list. Boxes and leaders count from 0, but for the
 // numbers that a question names, which count from 1.
+#![tactic(auto)]
+
 ghost use Rattle.std.specs.Prelude.{◌≡◌, true, false, cond, not, ◌||◌, ◌&&◌, ◌+◌, ◌-◌, ◌*◌, ◌≤◌, ◌<◌, ltb, length, get_or};
 ghost use Rattle.counting.specs.Count.{any, build, count};
 ghost use Rattle.counting.specs.Sets.{member};
@@ -41,7 +43,7 @@ ghost use Rattle.run.specs.Why.{no_box, why_refusal, why_reply};
 
 // Why a box is on a list: the iteration in which it was listed, counted from 1, with the confidence and the support
 // that were found for it then. Zeros where it is not listed.
-#[derive(Drop)]
+#[derive(Clone, Copy)]
 pub struct Reason {
     pub iteration: u8,
     pub confidence: u8,
@@ -50,7 +52,7 @@ pub struct Reason {
 
 // The reasons of all boxes, part by part: box i and leader k stand at place 13 i + k, for every n. Three arrays, and
 // not one of reasons: so sixteen places are looked at together.
-#[derive(Drop)]
+#[derive(Clone, Copy)]
 pub struct Reasons {
     pub iterations: [u8; 169],
     pub confidences: [u8; 169],
@@ -58,7 +60,7 @@ pub struct Reasons {
 }
 
 // What is kept between iterations. Places of rows and lists above n are 0.
-#[derive(Drop)]
+#[derive(Clone, Copy)]
 pub struct Run {
     pub n: u8,
     pub t: u8,
@@ -71,14 +73,14 @@ pub struct Run {
 }
 
 // The reply of a start and of an iteration: the refusal's number, or 0 with the state.
-#[derive(Drop)]
+#[derive(Clone, Copy)]
 pub struct Next {
     pub refusal: u8,
     pub run: Run,
 }
 
 // The reply of the call that says why a box is listed: the refusal's number, the state as it came, and the reason.
-#[derive(Drop)]
+#[derive(Clone, Copy)]
 pub struct Why {
     pub refusal: u8,
     pub run: Run,
@@ -308,7 +310,7 @@ fn is_bad_reason(t: u8, done: u8, listed: bool, r: Reason) -> bool
 }
 
 // What the reasons of a state are held against.
-#[derive(Drop)]
+#[derive(Clone, Copy)]
 struct Limits {
     n: u8,
     t: u8,
@@ -316,7 +318,7 @@ struct Limits {
 }
 
 // What a look at the reasons of one box gives: whether some listed box has a bad reason, and how many are listed.
-#[derive(Drop)]
+#[derive(Clone, Copy)]
 struct Looked {
     bad: bool,
     listed: u16,
@@ -612,7 +614,7 @@ fn step5_lists(n: u8, faulty: u16, lists: [u16; 13], confidences: &[u8]) -> [u16
 }
 
 // What the reasons of an iteration go by: its number, counted from 1, and the lists before and after it.
-#[derive(Drop)]
+#[derive(Clone, Copy)]
 struct Joining {
     n: u8,
     iteration: u8,

@@ -6,6 +6,7 @@ use mathlib.Core.List.{List, []}
 use Prim.Native.Nat.{ℕ, ◌*◌, ◌≤◌}
 use lib.ListN.{length, take, set}
 use denote.Ref.{Bor}
+use denote.MutBor.{MutBor}
 use Rattle.counting.specs.Count.{build}
 use Rattle.counting.proofs.Build.{length_build, front_take}
 use Rattle.sizes.specs.Sizes.{Startable, table_rows}
@@ -107,31 +108,34 @@ write_table_call_is (WriteTableCall.call κs a r x p) = p
 abbrev lent : List ℕ → Bor (List ℕ)
 lent numbers = record { ref_ptr = (0, 0); now = numbers }
 
+abbrev lent_mut : List ℕ → MutBor (List ℕ)
+lent_mut numbers = record { ref_ptr = (0, 0); ghost_name = 0; now = numbers }
+
 pub read_heading_call : (bytes slice : List ℕ) →
     ReadHeadingCall bytes slice (heading_reply bytes (length slice)) (heading_writes bytes slice)
 read_heading_call bytes slice =
-    ReadHeadingCall.call ([], ([], tt)) (lent bytes, (lent slice, tt)) (heading_reply bytes (length slice))
-    (lent bytes, (lent (heading_writes bytes slice), tt)) (refl, refl)
+    ReadHeadingCall.call ([], ([], tt)) (lent bytes, (lent_mut slice, tt)) (heading_reply bytes (length slice))
+    (lent bytes, (lent_mut (heading_writes bytes slice), tt)) (refl, refl)
 
 pub read_table_call : (n : ℕ) (bytes slice : List ℕ) →
     ReadTableCall n bytes slice (table_refusal n bytes (length slice)) (table_writes n bytes slice)
 read_table_call n bytes slice =
-    ReadTableCall.call ([], ([], tt)) (n, (lent bytes, (lent slice, tt))) (table_refusal n bytes (length slice))
-    (n, (lent bytes, (lent (table_writes n bytes slice), tt))) (refl, refl)
+    ReadTableCall.call ([], ([], tt)) (n, (lent bytes, (lent_mut slice, tt))) (table_refusal n bytes (length slice))
+    (n, (lent bytes, (lent_mut (table_writes n bytes slice), tt))) (refl, refl)
 
 pub write_heading_call : (n t faulty : ℕ) (rows slice : List ℕ) →
     WriteHeadingCall n t faulty rows slice (write_heading_reply n t faulty rows (length slice))
     (write_heading_writes n t faulty rows slice)
 write_heading_call n t faulty rows slice =
-    WriteHeadingCall.call ([], ([], tt)) (n, (t, (faulty, (lent rows, (lent slice, tt)))))
+    WriteHeadingCall.call ([], ([], tt)) (n, (t, (faulty, (lent rows, (lent_mut slice, tt)))))
     (write_heading_reply n t faulty rows (length slice))
-    (n, (t, (faulty, (lent rows, (lent (write_heading_writes n t faulty rows slice), tt))))) (refl, refl)
+    (n, (t, (faulty, (lent rows, (lent_mut (write_heading_writes n t faulty rows slice), tt))))) (refl, refl)
 
 pub write_table_call : (n : ℕ) (rows slice : List ℕ) →
     WriteTableCall n rows slice (write_table_reply n rows (length slice)) (write_table_writes n rows slice)
 write_table_call n rows slice =
-    WriteTableCall.call ([], ([], tt)) (n, (lent rows, (lent slice, tt))) (write_table_reply n rows (length slice))
-    (n, (lent rows, (lent (write_table_writes n rows slice), tt))) (refl, refl)
+    WriteTableCall.call ([], ([], tt)) (n, (lent rows, (lent_mut slice, tt))) (write_table_reply n rows (length slice))
+    (n, (lent rows, (lent_mut (write_table_writes n rows slice), tt))) (refl, refl)
 
 -- what an accepted call of the heading writer wrote
 module _ {n t faulty : ℕ} {rows slice last : List ℕ} {r : Wrote} (c : WriteHeadingCall n t faulty rows slice r last)

@@ -1,5 +1,7 @@
 // The run file: the heading reader, the table reader and the reader of a part of a table. All numbers stand most
 // significant byte first. The writer is in write.rt.
+#![tactic(auto)]
+
 mod write;
 
 ghost use Rattle.std.specs.Prelude.{◌≡◌, List, false, not, ◌&&◌, ℕ, ◌+◌, ◌*◌, ◌≤◌, ◌<◌, eqb, length};
@@ -21,7 +23,7 @@ ghost use Rattle.runfile.specs.Reply.{
 pub use write::{Wrote, write_heading, write_row, write_table};
 
 // The reply of the heading reader: the refusal's number, or 0 with what the heading says.
-#[derive(Drop)]
+#[derive(Clone, Copy)]
 pub struct Heading {
     pub refusal: u8,
     pub version: u16,

@@ -20,7 +20,7 @@ ghost use Rattle.runfile.specs.Write.{
 use crate::is_outside;
 
 // The reply of a writer: the refusal's number, or 0 with the number of bytes written.
-#[derive(Drop)]
+#[derive(Clone, Copy)]
 pub struct Wrote {
     pub refusal: u8,
     pub size: usize,

@@ -9,7 +9,7 @@ use borrow.Author.Tests.{eq-eqb}
 use Rattle.counting.proofs.Bools.{cond_false}
 use Rattle.sizes.specs.Sizes.{Sized, table_rows}
 use Rattle.sizes.proofs.Laws.{inside, sized_passes}
-use Rattle.tally.proofs.Calls.{lent}
+use Rattle.tally.proofs.Calls.{lent, lent_mut}
 use Rattle.lines.specs.declared.Written.{Written}
 use Rattle.lines.proofs.Lines.{line_given}
 use Rattle.lines.proofs.Laws.{line_front}
@@ -83,13 +83,13 @@ place_call n t numbers =
 pub say_call : (n table place row : ℕ) (slice : List ℕ) →
     SayCall n table place row slice (say_reply n table place row (length slice)) (say_writes n table place row slice)
 say_call n table place row slice =
-    SayCall.call ([], tt) (n, (table, (place, (row, (lent slice, tt))))) (say_reply n table place row (length slice))
-    (n, (table, (place, (row, (lent (say_writes n table place row slice), tt))))) (refl, refl)
+    SayCall.call ([], tt) (n, (table, (place, (row, (lent_mut slice, tt))))) (say_reply n table place row (length slice))
+    (n, (table, (place, (row, (lent_mut (say_writes n table place row slice), tt))))) (refl, refl)
 
 pub tell_call : (refusal line fault : ℕ) (slice : List ℕ) →
     TellCall refusal line fault slice (text_reply (told_text refusal line fault) (length slice))
     (text_writes (told_text refusal line fault) slice)
 tell_call refusal line fault slice =
-    TellCall.call ([], tt) (refusal, (line, (fault, (lent slice, tt))))
+    TellCall.call ([], tt) (refusal, (line, (fault, (lent_mut slice, tt))))
     (text_reply (told_text refusal line fault) (length slice))
-    (refusal, (line, (fault, (lent (text_writes (told_text refusal line fault) slice), tt)))) (refl, refl)
+    (refusal, (line, (fault, (lent_mut (text_writes (told_text refusal line fault) slice), tt)))) (refl, refl)

@@ -1,5 +1,7 @@
 // What the lines of a text say (docs/TEXT.md): where in a run file the row of a line `say` goes, the line of a place
 // of a table, and the line that is told where a text or a file is bad.
+#![tactic(auto)]
+
 ghost use Rattle.std.specs.Prelude.{◌≡◌, ◌≤◌, length};
 ghost use Rattle.says.specs.Say.{
   within,
@@ -18,7 +20,7 @@ use lines::Written;
 
 // The reply of the place of a line: the refusal's number, or 0 with whether the line is understood, and where in the
 // file its row goes.
-#[derive(Drop)]
+#[derive(Clone, Copy)]
 pub struct Place {
     pub refusal: u8,
     pub meant: bool,
@@ -183,8 +185,8 @@ fn write_fault(line: u64, said: &[u8], out: &mut [u8]) -> Written
             size: 0,
         };
     }
-    bytes::copy(&start[..end], out);
-    bytes::copy(said, &mut out[end..]);
+    lines::copy(&start[..end], out);
+    lines::copy(said, &mut out[end..]);
     Written { refusal: 0, size }
 }
 

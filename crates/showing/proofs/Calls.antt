@@ -5,7 +5,7 @@ use mathlib.Core.List.{List, [], ◌++◌}
 use Prim.Native.Nat.{ℕ, zero, suc, ◌≤◌, ◌<◌}
 use native.Mathlib.Omega.{arith}
 use lib.ListN.{length, take}
-use Rattle.tally.proofs.Calls.{lent}
+use Rattle.tally.proofs.Calls.{lent, lent_mut}
 use Rattle.lines.proofs.Placed.{placed_found}
 use Rattle.listing.specs.Listing.{ends_with}
 use Rattle.showing.specs.declared.Shown.{Shown}
@@ -35,8 +35,8 @@ show_call_is (ShowCall.call κs a r x p) = p
 pub show_call : (bytes : List ℕ) (part : ℕ) (slice : List ℕ) →
     ShowCall bytes part slice (show_reply bytes part (length slice)) (show_writes bytes part slice)
 show_call bytes part slice =
-    ShowCall.call ([], ([], tt)) (lent bytes, (part, (lent slice, tt))) (show_reply bytes part (length slice))
-    (lent bytes, (part, (lent (show_writes bytes part slice), tt))) (refl, refl)
+    ShowCall.call ([], ([], tt)) (lent bytes, (part, (lent_mut slice, tt))) (show_reply bytes part (length slice))
+    (lent bytes, (part, (lent_mut (show_writes bytes part slice), tt))) (refl, refl)
 
 -- what a call wrote
 abbrev pub wrote : Shown → List ℕ → List ℕ

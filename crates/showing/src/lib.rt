@@ -1,11 +1,13 @@
 // Shows a run file as text (docs/TEXT.md), part by part: the lines `run` and `rows`, and then the lines of each table.
+#![tactic(auto)]
+
 ghost use Rattle.std.specs.Prelude.{◌≡◌, cond, ◌+◌, ◌*◌, ◌≤◌, ◌<◌, ◌++◌, eqb, length, get_or};
 ghost use Rattle.sizes.specs.Sizes.{table_rows};
 ghost use Rattle.lines.specs.Line.{line_of};
 ghost use Rattle.listing.specs.File.{heading, rows_of, due};
 ghost use Rattle.listing.specs.Listing.{run_line, ends_with};
 ghost use Rattle.listing.specs.Inside.{Put};
-ghost use Rattle.says.specs.Say.{rows-word};
+ghost use Rattle.says.specs.Say.{rows_word};
 ghost use Rattle.showing.specs.Show.{
   place_text,
   places_text,
@@ -21,7 +23,7 @@ use runfile::Heading;
 
 // The reply of a part that is shown: the refusal's number, or 0 with the number of bytes written and how many parts
 // there are.
-#[derive(Drop)]
+#[derive(Clone, Copy)]
 pub struct Shown {
     pub refusal: u8,
     pub size: usize,
@@ -73,7 +75,7 @@ fn show_refusal(h: Heading, bytes: &[u8], part: usize, room: usize) -> u8
 fn put_heading(n: u8, t: u8, faulty: u16, rows: &[u64], out: &mut [u8]) -> usize
     requires { (length rows.now ≤ 13) × (300 ≤ length out.old) }
     ensures { Put out.old out.new 0 result
-        (run_line n t faulty ++ line_of rows-word rows.now) }
+        (run_line n t faulty ++ line_of rows_word rows.now) }
 {
     let numbers = [n as u64, t as u64, faulty as u64];
     let end = lines::put_line(out, 0, b"run", &numbers);

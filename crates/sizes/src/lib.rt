@@ -1,4 +1,6 @@
 // What n, t and a set of boxes may be: the two rows of constants by n, and the tests that more than one crate makes.
+#![tactic(auto)]
+
 ghost use Rattle.std.specs.Prelude.{◌≡◌, ◌&&◌, eqb};
 ghost use Rattle.counting.specs.Sets.{member};
 ghost use Rattle.sizes.specs.Sizes.{stray, sound, by_n, largest_t, table_rows, size_refusal};

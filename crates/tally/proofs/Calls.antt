@@ -4,6 +4,7 @@ use mathlib.Core.Path.{◌≡◌, refl}
 use mathlib.Core.List.{List, []}
 use Prim.Native.Nat.{ℕ}
 use denote.Ref.{Bor}
+use denote.MutBor.{MutBor}
 use Rattle.tally.specs.declared.Voted.{Voted}
 use Rattle.tally.specs.declared.Graded.{Graded}
 use Rattle.tally.specs.declared.Chosen.{Chosen}
@@ -15,6 +16,9 @@ use Rattle.tally.proofs.choose.Reads as ChooseReads
 -- a slice of these numbers, lent
 abbrev pub lent : List ℕ → Bor (List ℕ)
 lent numbers = record { ref_ptr = (0, 0); now = numbers }
+
+abbrev pub lent_mut : List ℕ → MutBor (List ℕ)
+lent_mut numbers = record { ref_ptr = (0, 0); ghost_name = 0; now = numbers }
 
 -- r is a reply of `vote` to these rows and t
 pub data VoteCall : List ℕ → ℕ → Voted → Type 1 where

@@ -1,4 +1,6 @@
 // The vote of step 3, the grade of step 4 and the choice of step 5, each by itself over lent slices of rows.
+#![tactic(auto)]
+
 ghost use Rattle.std.specs.Prelude.{◌≡◌, cond, ◌&&◌, ◌*◌, ◌≤◌, ◌<◌, length, take, eqb, ltb};
 ghost use Rattle.counting.specs.Most.{places, support, before, most};
 ghost use Rattle.tally.specs.Tally.{carried, vote_of, confidence_at, counted, firm_for, above2};
@@ -6,7 +8,7 @@ ghost use Rattle.tally.specs.Reply.{vote_reply, grade_reply, choice_refusal, cho
 ghost use Rattle.tally.specs.Inside.{lead_of};
 
 // The reply of a vote: the row that stands at least n − t times, or 0.
-#[derive(Drop)]
+#[derive(Clone, Copy)]
 pub struct Voted {
     pub refusal: u8,
     pub row: u64,
@@ -14,7 +16,7 @@ pub struct Voted {
 
 // The reply of a grade: the row found most often, its confidence, 0 to 2, and its support. The support stands also
 // where the confidence is 0 and the row with it.
-#[derive(Drop)]
+#[derive(Clone, Copy)]
 pub struct Graded {
     pub refusal: u8,
     pub row: u64,
@@ -23,7 +25,7 @@ pub struct Graded {
 }
 
 // The reply of a choice: the chosen row, and how many leaders with confidence 2 hold it.
-#[derive(Drop)]
+#[derive(Clone, Copy)]
 pub struct Chosen {
     pub refusal: u8,
     pub row: u64,
@@ -31,7 +33,7 @@ pub struct Chosen {
 }
 
 // The row that leads so far, and its support.
-#[derive(Drop)]
+#[derive(Clone, Copy)]
 struct Lead {
     row: u64,
     support: usize,

@@ -2,6 +2,8 @@
 // public function that writes a run file, reads a line, turns a text into a file or a file into a text, or says in a
 // line why a box is listed, on any numbers and any bytes, and prints every field of its reply and every place of what
 // was lent to it. The rows of a request are read by `runfile::read_part`, which `replies` tries.
+#![tactic(auto)]
+
 ghost use Rattle.std.specs.Prelude.{◌≡◌, ◌+◌, ◌*◌, ◌≤◌, ◌<◌, length};
 
 use making::Maker;
@@ -130,7 +132,7 @@ fn print_bytes(text: &mut [u8], word: &[u8], reply: &[u64], lent: &[u8]) {
 }
 
 // The head of a request: did all of it come, and the length of the slice to lend.
-#[derive(Drop)]
+#[derive(Clone, Copy)]
 struct Head {
     whole: bool,
     room: usize,

@@ -6,7 +6,7 @@ use mathlib.Core.List.{List, []}
 use Prim.Native.Nat.{ℕ, ◌≤◌}
 use native.Mathlib.Omega.{arith}
 use lib.ListN.{length, take}
-use Rattle.tally.proofs.Calls.{lent}
+use Rattle.tally.proofs.Calls.{lent, lent_mut}
 use Rattle.lines.proofs.Placed.{placed_found}
 use Rattle.listing.specs.File.{or_else}
 use Rattle.listing.specs.Listing.{ends_with}
@@ -32,9 +32,9 @@ pub answer_call : (bytes : List ℕ) (asked listed : ℕ) (slice : List ℕ) →
     AnswerCall bytes asked listed slice (answer_reply bytes asked listed (length slice))
     (answer_writes bytes asked listed slice)
 answer_call bytes asked listed slice =
-    AnswerCall.call ([], ([], tt)) (lent bytes, (asked, (listed, (lent slice, tt))))
+    AnswerCall.call ([], ([], tt)) (lent bytes, (asked, (listed, (lent_mut slice, tt))))
     (answer_reply bytes asked listed (length slice))
-    (lent bytes, (asked, (listed, (lent (answer_writes bytes asked listed slice), tt)))) (refl, refl)
+    (lent bytes, (asked, (listed, (lent_mut (answer_writes bytes asked listed slice), tt)))) (refl, refl)
 
 -- a call with 64 bytes of room is not refused, and what it wrote is the line
 module _ {bytes slice last : List ℕ} {asked listed : ℕ} {r : Answered} (roomy : 64 ≤ length slice)

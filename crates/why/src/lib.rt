@@ -1,4 +1,6 @@
 // Why a box is on a list: the number of a box is read from a text, and the line that says why is written.
+#![tactic(auto)]
+
 ghost use Rattle.std.specs.Prelude.{◌≡◌, true, [], ◌∷◌, ◌+◌, ◌-◌, ◌*◌, ◌≤◌, length};
 ghost use Rattle.lines.specs.Line.{line_of};
 ghost use Rattle.lines.specs.Read.{is_digit};
@@ -21,7 +23,7 @@ use run::{Reason, Why};
 const LINE_BYTES: usize = 60;
 
 // The reply of a box number: whether the text is one, and its value, 256 for each above 255.
-#[derive(Drop)]
+#[derive(Clone, Copy)]
 pub struct Number {
     pub good: bool,
     pub value: u64,
@@ -29,7 +31,7 @@ pub struct Number {
 
 // The reply of the line that says why: the refusal's number, or 0 with the length of the line and the number behind
 // `refused`, 0 where the line is another.
-#[derive(Drop)]
+#[derive(Clone, Copy)]
 pub struct Answered {
     pub refusal: u8,
     pub size: usize,
@@ -117,7 +119,7 @@ fn put_not_listed(text: &mut [u8]) -> usize
     requires { 11 ≤ length text.old }
     ensures { Put text.old text.new 0 result not_listed_line × (result ≤ 11) }
 {
-    bytes::copy(b"not listed\n", text)
+    lines::copy(b"not listed\n", text)
 }
 
 // Puts the line `refused` at the front of the text, and gives its size.
@@ -179,7 +181,7 @@ pub fn answer(bytes: &[u8], asked: u64, listed: u64, out: &mut [u8]) -> Answered
             ends: 0,
         };
     }
-    bytes::copy(&text[..size], out);
+    lines::copy(&text[..size], out);
     Answered {
         refusal: 0,
         size,
