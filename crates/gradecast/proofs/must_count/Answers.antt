@@ -1,0 +1,11 @@
+-- `gradecast::must_count` meets its contract: it makes the two tests in their order. Assumes nothing.
+use mathlib.Core.Path.{refl, ◌∙◌}
+use borrow.Author.Tests.{eq-eqb, ne_eqb}
+use borrow.Author.Rules.{rules}
+use Rattle.gradecast.proofs.must_count.Goals as goal
+
+pub returns-then-own-eq0 : goal.returns-then-own-eq0
+returns-then-own-eq0 c = rw (eq-eqb _ 0 c.if-own-eq0.true) refl
+
+pub returns : goal.returns
+returns c = c.is_member.ensures ∙ rw (ne_eqb _ 0 c.if-own-eq0.false) refl

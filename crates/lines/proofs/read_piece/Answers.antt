@@ -1,0 +1,80 @@
+-- `lines::read_piece` meets its contract: the piece from a place on is what is read so far and the piece from place i
+-- on, which ends at a space or with the line. A byte that is no digit, or brings the value to 2⁶⁴, decides: what
+-- follows makes it no smaller. What is left of the line falls. Assumes nothing.
+use mathlib.Core.Path.{◌≡◌, sym, subst, ◌∙◌}
+use mathlib.Core.Bool.{true, false≢true}
+use mathlib.Core.List.{List, []}
+use Prim.Native.Nat.{ℕ, ◌+◌, ◌-◌}
+use lib.ListN.{length, drop}
+use borrow.Author.Tests.{not-true, not-false}
+use Rattle.lines.specs.Line.{read_on}
+use Rattle.lines.specs.Read.{piece, is_small}
+use Rattle.lines.proofs.Pieces.{piece_stops, piece_end}
+use Rattle.lines.proofs.Digits.{
+  ReadTo,
+  read_begins,
+  read_bad,
+  read_turn,
+  read_good,
+  read_next,
+  read_value,
+}
+use borrow.Author.Rules.{rules}
+use Rattle.lines.proofs.read_piece.Goals as goal
+use Rattle.lines.proofs.read_piece.Goals.{After-add_digit-more, At-loop-i, In-loop-i, Start}
+
+abbrev start_of : At-loop-i → Start
+start_of h = (goal.at.At-loop-i h).Start
+
+-- where the piece ends it has been read
+done : (text : List ℕ) (from i value : ℕ) → ReadTo text from i value → piece (drop i text) ≡ [] →
+    (true ≡ is_small (piece (drop from text))) × ((true ≡ true → i ≡ from + length (piece (drop from text)))
+    × (true ≡ true → value ≡ read_on 0 (piece (drop from text))))
+done text from i value r e = (
+  sym (read_good text from i value r e),
+  (λ t. read_next text from i value r e, λ t. read_value text from i value r e),
+)
+
+pub loop-i-init : goal.loop-i-init
+loop-i-init c = read_begins c.args.line.now c.args.from c.requires
+
+pub returns-then-byte-eq32 : goal.returns-then-byte-eq32
+returns-then-byte-eq32 c =
+    let head = (goal.at.returns-then-byte-eq32 c).At-loop-i in
+    let f = (start_of head).args in
+    let line = f.line.now in
+    let i = head.loop-i.i in
+    done line f.from i head.loop-i.value head.loop-i.invariant
+    (piece_stops line i c.loop-i-test.true c.if-byte-eq32.true)
+
+pub returns-then-not-more : goal.returns-then-not-more
+returns-then-not-more c =
+    let call = (goal.at.returns-then-not-more c).After-add_digit-more in
+    let inside = (goal.at.After-add_digit-more call).In-loop-i in
+    let head = (goal.at.In-loop-i inside).At-loop-i in
+    let f = (start_of head).args in
+    let bad =
+    read_bad f.line.now f.from head.loop-i.i head.loop-i.value head.loop-i.invariant inside.loop-i-test.true
+    call.if-byte-eq32.false
+    (sym call.add_digit-more.ensures.good_value ∙ not-true _ c.if-not-more.true) in
+    record { good_value = sym bad; next_value = λ e. absurd (false≢true e); value_value = λ e. absurd (false≢true e) }
+
+pub loop-i-preserved : goal.loop-i-preserved
+loop-i-preserved c =
+    let call = (goal.at.loop-i-preserved c).After-add_digit-more in
+    let inside = (goal.at.After-add_digit-more call).In-loop-i in
+    let head = (goal.at.In-loop-i inside).At-loop-i in
+    let f = (start_of head).args in
+    let good : call.add_digit-more.result.good ≡ true = not-false _ c.if-not-more.false in
+    subst (ReadTo f.line.now f.from (head.loop-i.i + 1)) (sym (call.add_digit-more.ensures.value_value good))
+    (read_turn f.line.now f.from head.loop-i.i head.loop-i.value head.loop-i.invariant
+    inside.loop-i-test.true
+    call.if-byte-eq32.false
+    (sym call.add_digit-more.ensures.good_value ∙ good))
+
+pub returns : goal.returns
+returns c =
+    let head = (goal.at.returns c).At-loop-i in
+    let f = (start_of head).args in
+    done f.line.now f.from head.loop-i.i head.loop-i.value head.loop-i.invariant
+    (piece_end f.line.now head.loop-i.i c.loop-i-test.false)

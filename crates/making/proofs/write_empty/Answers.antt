@@ -1,0 +1,75 @@
+-- `making::write_empty` meets its contract: a heading that is refused is not written. Otherwise it has room, so that
+-- the slice is as long as the file, and behind the heading all of it is cleared. Assumes nothing.
+use mathlib.Core.Path.{◌≡◌, refl, sym, ap, ◌∙◌}
+use Prim.Native.Nat.{◌≤◌}
+use native.Mathlib.Omega.{arith}
+use lib.ListN.{length}
+use Rattle.runfile.specs.declared.write.Wrote.{Wrote}
+use Rattle.runfile.specs.File.{heading_bytes}
+use Rattle.runfile.specs.Write.{write_heading_refusal}
+use Rattle.runfile.proofs.Written.{write_heading_accepted, write_heading_number, write_heading_leaves, write_heading_size, write_heading_length}
+use Rattle.making.proofs.Files.{heading_cleared}
+use borrow.Author.Rules.{rules}
+use Rattle.making.proofs.write_empty.Goals as goal
+use Rattle.making.proofs.write_empty.Goals.{After-write_heading-wrote, Else-wrote-ne0, Start}
+
+-- the refusal is the heading's
+number_of : (c : After-write_heading-wrote) → let a = c.args in c.write_heading-wrote.result.refusal ≡ write_heading_refusal a.m.n a.m.t a.m.faulty a.rows.now (length a.file.now)
+number_of c =
+    let a = c.args in
+    ap (λ (r : Wrote). r.refusal) c.write_heading-wrote.ensures.value
+    ∙ write_heading_number a.m.n a.m.t a.m.faulty a.rows.now a.file.now
+
+-- where the heading stands
+abbrev heading_of_lem : Else-wrote-ne0 → After-write_heading-wrote
+heading_of_lem c = (goal.at.Else-wrote-ne0 c).After-write_heading-wrote
+
+abbrev start_of : Else-wrote-ne0 → Start
+start_of c = (goal.at.After-write_heading-wrote (heading_of_lem c)).Start
+
+none : (c : Else-wrote-ne0) → let a = (start_of c).args in write_heading_refusal a.m.n a.m.t a.m.faulty a.rows.now (length a.file.now) ≡ 0
+none c = sym (number_of (heading_of_lem c)) ∙ c.if-wrote-ne0.false
+
+size_of : (c : Else-wrote-ne0) → (heading_of_lem c).write_heading-wrote.result.size ≡ heading_bytes (start_of c).args.m.n
+size_of c =
+    let a = (start_of c).args in
+    ap (λ (r : Wrote). r.size) (heading_of_lem c).write_heading-wrote.ensures.value
+    ∙ write_heading_size a.m.n a.m.t a.m.faulty a.rows.now a.file.now (none c)
+
+long_of : (c : Else-wrote-ne0) → length (heading_of_lem c).write_heading-wrote.new.out ≡ length (start_of c).args.file.now
+long_of c =
+    let a = (start_of c).args in
+    ap length (heading_of_lem c).write_heading-wrote.ensures.out_after
+    ∙ write_heading_length a.m.n a.m.t a.m.faulty a.rows.now a.file.now
+
+room_of : (c : Else-wrote-ne0) → heading_bytes (start_of c).args.m.n ≤ length (start_of c).args.file.now
+room_of c = (write_heading_accepted _ _ _ _ _ (none c)).enough
+
+pub returns-then-wrote-ne0 : goal.returns-then-wrote-ne0
+returns-then-wrote-ne0 c =
+    let w = (goal.at.returns-then-wrote-ne0 c).After-write_heading-wrote in
+    let a = w.args in (
+      number_of w,
+      λ z. absurd (c.if-wrote-ne0.true z),
+      λ some.
+          w.write_heading-wrote.ensures.out_after
+          ∙ (write_heading_leaves a.m.n a.m.t a.m.faulty a.rows.now a.file.now
+          (λ z. some (number_of w ∙ z))).1,
+    )
+
+pub slice_bounds-clear-count : goal.slice_bounds-clear-count
+slice_bounds-clear-count c = omega (arith, size_of c, room_of c, long_of c)
+
+pub slice_bounds-clear-start : goal.slice_bounds-clear-start
+slice_bounds-clear-start c = omega (arith, size_of c, room_of c, long_of c)
+
+pub returns : goal.returns
+returns c =
+    let d = (goal.at.returns c).Else-wrote-ne0 in
+    let a = (start_of d).args in (
+      sym (none d),
+      λ z.
+          heading_cleared a.m a.rows.now a.file.now _ _ _ (none d) (heading_of_lem d).write_heading-wrote.ensures.out_after
+          (size_of d) c.clear.ensures (start_of d).requires,
+      λ some. absurd (some refl),
+    )

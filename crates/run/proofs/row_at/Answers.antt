@@ -1,0 +1,17 @@
+-- `run::row_at` meets its contract: a sound box's place holds its new row, and any other place 0. Assumes nothing.
+use mathlib.Core.Path.{sym, ◌∙◌}
+use Rattle.run.proofs.Entries.{is_box, entry_box, entry_none}
+use borrow.Author.Rules.{rules}
+use Rattle.run.proofs.row_at.Goals as goal
+
+pub new_row-requires : goal.new_row-requires
+new_row-requires c =
+    (c.requires, is_box _ _ _ (sym c.is_sound_box.ensures ∙ c.if-is_sound_box.true))
+
+pub returns-then-is_sound_box : goal.returns-then-is_sound_box
+returns-then-is_sound_box c =
+    let box = sym c.is_sound_box.ensures ∙ c.if-is_sound_box.true in
+    c.new_row.ensures ∙ entry_box _ _ _ _ box
+
+pub returns : goal.returns
+returns c = entry_none _ _ _ _ (sym c.is_sound_box.ensures ∙ c.if-is_sound_box.false)

@@ -1,0 +1,41 @@
+-- `run::step5_lists` meets its contract: after i turns the first i lists are filled, and those above n are empty.
+-- What is left of n falls. Assumes nothing.
+use mathlib.Core.List.{List}
+use Prim.Native.Nat.{ℕ, ◌-◌, ◌<◌}
+use native.Mathlib.Omega.{arith}
+use lib.ListN.{get_or, replicate}
+use Rattle.counting.proofs.Loops.{Filled, fill_begins, fill_turn}
+use Rattle.run.specs.Inside.{list_from}
+use Rattle.run.specs.Iteration.{entry}
+use Rattle.run.proofs.Entries.{entry_above, places_filled}
+use borrow.Author.Rules.{rules}
+use Rattle.run.proofs.step5_lists.Invariants.{list}
+use Rattle.run.proofs.step5_lists.Goals as goal
+use Rattle.run.proofs.step5_lists.Goals.{In-loop-i, Start}
+
+-- a turn, and the place that it fills
+abbrev start_of : In-loop-i → Start
+start_of c = (goal.at.In-loop-i c).Start
+
+few : (c : In-loop-i) → c.loop-i.i < 13
+few c = omega (arith, c.loop-i-test.true, (start_of c).requires.1)
+
+pub loop-i-init : goal.loop-i-init
+loop-i-init c = fill_begins _ (replicate 13 0)
+
+pub offset_bounds-out-i : goal.offset_bounds-out-i
+offset_bounds-out-i c = let l = few (goal.at.offset_bounds-out-i c).In-loop-i in omega arith
+
+pub bounds-out-i : goal.bounds-out-i
+bounds-out-i c = few (goal.at.bounds-out-i c).In-loop-i
+
+pub loop-i-preserved : goal.loop-i-preserved
+loop-i-preserved c =
+    let turn = (goal.at.loop-i-preserved c).In-loop-i in
+    fill_turn _ (replicate 13 0) (start_of turn).requires.1 turn.loop-i.invariant turn.loop-i-test.true
+    c.list_at.ensures
+
+pub returns : goal.returns
+returns c =
+    let high = c.requires.1 in
+    places_filled _ high (λ q h. entry_above _ _ q _ h) c.loop-i.invariant (omega arith)

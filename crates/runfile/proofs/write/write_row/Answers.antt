@@ -1,0 +1,55 @@
+-- `runfile::write::write_row` meets its contract: a slice of fewer than 8 bytes has no room wherever the row goes, and
+-- otherwise the place is held against what is left before 8 bytes, so that no sum can be too large. Assumes nothing.
+use mathlib.Core.Path.{◌≡◌, refl, sym, ◌∙◌}
+use Prim.Native.Nat.{ℕ, ◌+◌, ◌≤◌, ◌<◌}
+use native.Mathlib.Omega.{arith}
+use lib.ListN.{length}
+use borrow.Author.Tests.{lt-ltb, le-ltb}
+use Rattle.runfile.specs.Write.{row_refusal, row_writes}
+use borrow.Author.Rules.{rules}
+use Rattle.runfile.proofs.write.write_row.Statement.{statement}
+use Rattle.runfile.proofs.write.write_row.Tie as tie
+use Rattle.runfile.proofs.write.write_row.Reads as Reads
+use Rattle.runfile.proofs.write.write_row.Goals as goal
+use Rattle.runfile.proofs.write.write_row.Goals.{Else-out-at, Else-out-lt8, Start}
+
+-- the slice has no room, and it has
+short : (at room : ℕ) → room < at + 8 → 10 ≡ row_refusal at room
+unfolding row_refusal
+short at room l = rw (lt-ltb room (at + 8) l) refl
+
+abbrev start_of : Else-out-lt8 → Start
+start_of c = (goal.at.Else-out-lt8 c).Start
+
+room_of : (c : Else-out-at) → (start_of (goal.at.Else-out-at c).Else-out-lt8).args.at + 8 ≤ length (start_of (goal.at.Else-out-at c).Else-out-lt8).args.out.now
+room_of c = omega (arith, c.if-out-at.false, c.if-out-lt8.false)
+
+-- the contract admits one reply, and one last contents of the slice
+pub only_one : (κs : _) (a : _) (r s : _) (x y : _) → Reads.Post κs a r x → Reads.Post κs a s y →
+    (r ≡ s) × (x.1.1.0.now ≡ y.1.1.0.now)
+only_one κs a r s x y p q = (p.0 ∙ sym q.0, p.1 ∙ sym q.1)
+
+pub returns-then-out-lt8 : goal.returns-then-out-lt8
+unfolding row_writes
+returns-then-out-lt8 c =
+    let a = c.args in
+    let less : length a.out.now < a.at + 8 = omega (arith, c.if-out-lt8.true) in
+    record { value = short _ _ less; out_after = rw (lt-ltb (length a.out.now) (a.at + 8) less) refl }
+
+pub returns-then-out-at : goal.returns-then-out-at
+unfolding row_writes
+returns-then-out-at c =
+    let a = (start_of (goal.at.returns-then-out-at c).Else-out-lt8).args in
+    let less : length a.out.now < a.at + 8 = omega (arith, c.if-out-at.true) in
+    record { value = short _ _ less; out_after = rw (lt-ltb (length a.out.now) (a.at + 8) less) refl }
+
+pub put_row-requires : goal.put_row-requires
+put_row-requires c = room_of (goal.at.put_row-requires c).Else-out-at
+
+pub returns : goal.returns
+unfolding row_refusal row_writes
+returns c =
+    let l = (goal.at.returns c).Else-out-at in
+    let a = (start_of (goal.at.Else-out-at l).Else-out-lt8).args in
+    let enough = le-ltb (length a.out.now) (a.at + 8) (room_of l) in
+    record { value = rw enough refl; out_after = c.put_row.ensures ∙ rw enough refl }

@@ -1,0 +1,62 @@
+-- `runfile::write::write_table` meets its contract: the refusal is made first, and a table that is not refused has its
+-- exact number of rows and room in the slice; its rows are written from the first place on. Assumes nothing.
+use mathlib.Core.Path.{◌≡◌, sym, ap, ◌∙◌}
+use mathlib.Core.List.{[]}
+use Prim.Native.Nat.{ℕ, ◌*◌}
+use native.Mathlib.Omega.{arith}
+use lib.ListN.{length}
+use Rattle.sizes.specs.Sizes.{table_rows}
+use Rattle.runfile.specs.File.{rows_in_bytes}
+use Rattle.runfile.specs.Write.{table_file, at_front, write_table_refusal, write_table_reply, write_table_writes}
+use Rattle.runfile.proofs.Put.{put_front}
+use Rattle.runfile.proofs.Written.{
+  TableWritten,
+  write_table_accepted,
+  wrote_refused,
+  wrote_leaves,
+  wrote_given,
+  wrote_written,
+}
+use borrow.Author.Rules.{rules}
+use Rattle.runfile.proofs.write.write_table.Statement.{statement}
+use Rattle.runfile.proofs.write.write_table.Tie as tie
+use Rattle.runfile.proofs.write.write_table.Reads as Reads
+use Rattle.runfile.proofs.write.write_table.Goals as goal
+use Rattle.runfile.proofs.write.write_table.Goals.{Else-refusal-ne0, Start}
+
+abbrev start_of : Else-refusal-ne0 → Start
+start_of c = (goal.at.Else-refusal-ne0 c).Start
+
+none : (c : Else-refusal-ne0) → write_table_refusal (start_of c).args.n (start_of c).args.rows.now (length (start_of c).args.out.now) ≡ 0
+none c = sym c.write_table_refusal-refusal.ensures ∙ c.if-refusal-ne0.false
+
+-- what the table passed
+fits : (c : Else-refusal-ne0) → TableWritten (start_of c).args.n (start_of c).args.rows.now (length (start_of c).args.out.now)
+fits c = write_table_accepted _ _ _ (none c)
+
+-- the contract admits one reply, and one last contents of the slice
+pub only_one : (κs : _) (a : _) (r s : _) (x y : _) → Reads.Post κs a r x → Reads.Post κs a s y →
+    (r ≡ s) × (x.1.1.0.now ≡ y.1.1.0.now)
+only_one κs a r s x y p q = (p.0 ∙ sym q.0, p.1 ∙ sym q.1)
+
+pub returns-then-refusal-ne0 : goal.returns-then-refusal-ne0
+unfolding write_table_reply write_table_writes
+returns-then-refusal-ne0 c =
+    let e = c.write_table_refusal-refusal.ensures in
+    let a = c.args in
+    let some : write_table_refusal a.n a.rows.now (length a.out.now) ≡ 0 → ⊥ = λ z. c.if-refusal-ne0.true (e ∙ z) in
+    record { value = ap (λ (k : ℕ). record { refusal = k; size = 0 }) e ∙ sym (wrote_refused _ _ [] [] some); out_after = sym (wrote_leaves _ 0 _ _ some) }
+
+pub put_rows-requires : goal.put_rows-requires
+put_rows-requires c = omega (arith, (fits (goal.at.put_rows-requires c).Else-refusal-ne0).exact, (fits (goal.at.put_rows-requires c).Else-refusal-ne0).enough)
+
+pub returns : goal.returns
+unfolding write_table_reply write_table_writes table_file
+returns c =
+    let l = (goal.at.returns c).Else-refusal-ne0 in
+    let a = (start_of l).args in
+    let size : 8 * length a.rows.now ≡ 8 * table_rows a.n = omega (arith, (fits l).exact) in
+    record { value = ap (λ (k : ℕ). record { refusal = 0; size = k }) size ∙ sym (wrote_given _ _ [] [] (none l)); out_after = c.put_rows.ensures
+          ∙ put_front _ _
+          ∙ ap (λ (k : ℕ). at_front (rows_in_bytes a.rows.now k) a.out.now) (fits l).exact
+          ∙ sym (wrote_written _ 0 _ _ (none l)) }

@@ -1,0 +1,114 @@
+-- `says::write_fault` meets its contract: `line` and the number are put together apart, in 26 bytes, without the
+-- newline; where the slice has room for them and the sentence, they are copied to its front, and the sentence behind
+-- them; a slice that is too short stays as it is. Assumes nothing.
+use mathlib.Core.Path.{◌≡◌, refl, ap, ◌∙◌}
+use mathlib.Core.List.{List, ◌++◌}
+use Prim.Native.Nat.{ℕ, ◌+◌, ◌-◌, ◌≤◌, ◌<◌}
+use native.Mathlib.Omega.{arith}
+use lib.ListN.{length, take, length-append, length-drop}
+use Rattle.lines.proofs.Placed.{rest_whole}
+use Rattle.says.specs.Told.{fault_line}
+use Rattle.says.proofs.Faults.{
+  line_start,
+  front_short,
+  front_size,
+  front_text,
+  text_refused,
+  text_given,
+  text_leaves,
+  parts_written,
+}
+use borrow.Author.Rules.{rules}
+use Rattle.says.proofs.write_fault.Goals as goal
+use Rattle.says.proofs.write_fault.Goals.{After-copy, After-write_line-end, Else-out-size, Start}
+
+abbrev start_of : After-write_line-end → Start
+start_of c = (goal.at.After-write_line-end c).Start
+
+-- `line` and the number, as they are put together apart, and how many bytes they have
+abbrev end_of : After-write_line-end → ℕ
+end_of c = c.write_line-end.result.size - 1
+
+abbrev apart_of : After-write_line-end → List ℕ
+apart_of c = take (end_of c) c.write_line-end.new.out
+
+abbrev front_of : After-write_line-end → List ℕ
+front_of c = line_start (start_of c).args.line
+
+size_of : (c : After-write_line-end) → c.write_line-end.result.size ≡ length (front_of c) + 1
+size_of c = front_size (start_of c).args.line (start_of c).ranges.line.fits _ c.write_line-end.ensures.value
+
+short_of : (c : After-write_line-end) → length (front_of c) ≤ 25
+short_of c = front_short (start_of c).args.line (start_of c).ranges.line.fits
+
+text_of : (c : After-write_line-end) → apart_of c ≡ front_of c
+text_of c =
+    let end : end_of c ≡ length (front_of c) = omega (arith, size_of c) in
+    ap (λ (k : ℕ). take k c.write_line-end.new.out) end
+    ∙ front_text (start_of c).args.line (start_of c).ranges.line.fits _ _ refl c.write_line-end.ensures.out_after
+
+long_of : (c : After-write_line-end) → end_of c ≡ length (apart_of c)
+long_of c = omega (arith, size_of c, ap length (text_of c))
+
+-- the whole line
+abbrev line_of_lem : After-write_line-end → List ℕ
+line_of_lem c = fault_line (start_of c).args.line (start_of c).args.said.now
+
+whole_of : (c : After-write_line-end) → end_of c + length (start_of c).args.said.now ≡ length (line_of_lem c)
+unfolding fault_line
+whole_of c = omega (arith, size_of c, length-append (front_of c) (start_of c).args.said.now)
+
+pub overflow_sub-end : goal.overflow_sub-end
+overflow_sub-end c = omega (arith, size_of (goal.at.overflow_sub-end c).After-write_line-end)
+
+pub overflow_add-size : goal.overflow_add-size
+overflow_add-size c =
+    let w = (goal.at.overflow_add-size c).After-write_line-end in
+    omega (arith, size_of w, short_of w, (start_of w).requires)
+
+pub returns-then-out-size : goal.returns-then-out-size
+returns-then-out-size c =
+    let w = (goal.at.returns-then-out-size c).After-write_line-end in
+    let short : length (start_of w).args.out.now < length (line_of_lem w) =
+    omega (arith, whole_of w, c.if-out-size.true) in
+    record { value = text_refused (line_of_lem w) _ short; out_after = text_leaves (line_of_lem w) _ short }
+
+pub slice_bounds-start-end : goal.slice_bounds-start-end
+slice_bounds-start-end c =
+    let w = (goal.at.slice_bounds-start-end c).After-write_line-end in
+    omega (arith, size_of w, short_of w, w.write_line-end.auto.out)
+
+pub slice_bounds-copy-end : goal.slice_bounds-copy-end
+slice_bounds-copy-end c = long_of (goal.at.slice_bounds-copy-end c).After-write_line-end
+
+pub copy-requires : goal.copy-requires
+copy-requires c =
+    let else = (goal.at.copy-requires c).Else-out-size in
+    let w = (goal.at.Else-out-size else).After-write_line-end in
+    omega (arith, long_of w, whole_of w, else.if-out-size.false)
+
+pub copy-requires-2 : goal.copy-requires-2
+copy-requires-2 c =
+    let copied = (goal.at.copy-requires-2 c).After-copy in
+    let else = (goal.at.After-copy copied).Else-out-size in
+    let w = (goal.at.Else-out-size else).After-write_line-end in
+    let one = copied.copy.new.out in
+    omega (
+      arith,
+      ap length (rest_whole one (end_of w)),
+      length-drop (end_of w) one,
+      copied.copy.auto.out,
+      whole_of w,
+      else.if-out-size.false,
+    )
+
+pub returns : goal.returns
+unfolding fault_line
+returns c =
+    let copied = (goal.at.returns c).After-copy in
+    let else = (goal.at.After-copy copied).Else-out-size in
+    let w = (goal.at.Else-out-size else).After-write_line-end in
+    let s = (start_of w).args in
+    record { value = text_given (line_of_lem w) _ _ (whole_of w) else.if-out-size.false; out_after = parts_written s.out.now copied.copy.new.out _ (apart_of w) s.said.now (line_of_lem w) (end_of w)
+          (long_of w) (ap (λ (f : List ℕ). f ++ s.said.now) (text_of w)) (omega (arith, whole_of w, else.if-out-size.false))
+          copied.copy.ensures.out_after c.copy-2.ensures.out_after }

@@ -1,0 +1,33 @@
+-- `sizes::largest_t` meets its contract: inside 1 to 13 it reads the table, whose rule one computed test gives;
+-- outside both sides are 0. Assumes nothing.
+use mathlib.Core.Path.{◌≡◌, refl, sym, ◌∙◌}
+use mathlib.Core.Bool.{false}
+use mathlib.Core.List.{List, [], ◌∷◌}
+use Prim.Native.Nat.{ℕ}
+use borrow.Author.Rules.{rules}
+use Rattle.counting.specs.Count.{any}
+use Rattle.sizes.specs.Sizes.{largest_t}
+use Rattle.sizes.proofs.Laws.{by_n_low, by_n_high, table_rule, wrong}
+use Rattle.sizes.proofs.largest_t.Reads as Reads
+use Rattle.sizes.proofs.largest_t.Goals as goal
+
+numbers : List ℕ
+numbers = 0 ∷ 0 ∷ 0 ∷ 1 ∷ 1 ∷ 1 ∷ 2 ∷ 2 ∷ 2 ∷ 3 ∷ 3 ∷ 3 ∷ 4 ∷ []
+
+right : any 13 (wrong numbers largest_t) ≡ false
+unfolding numbers any largest_t
+right = refl
+
+-- the contract admits one reply
+pub only_one : (κs : _) (a : _) (r s : _) (x y : _) → Reads.Post κs a r x → Reads.Post κs a s y → r ≡ s
+only_one κs a r s x y p q = p ∙ sym q
+
+pub returns-in-1-to-13 : goal.returns-in-1-to-13
+unfolding numbers
+returns-in-1-to-13 c = table_rule numbers largest_t right c.args.n (search rules) (search rules)
+
+pub returns-in_default : goal.returns-in_default
+returns-in_default c = by_n_low largest_t c.args.n (search rules)
+
+pub returns-in_default-2 : goal.returns-in_default-2
+returns-in_default-2 c = by_n_high largest_t c.args.n (search rules)

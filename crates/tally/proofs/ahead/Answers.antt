@@ -1,0 +1,67 @@
+-- `tally::ahead` meets its contract: nothing stands before itself; otherwise the two supports decide, and on a tie the
+-- lower row. Assumes nothing.
+use mathlib.Core.Path.{◌≡◌, sym, ap, ◌∙◌}
+use mathlib.Core.List.{List}
+use Prim.Native.Nat.{ℕ}
+use native.Mathlib.Omega.{arith}
+use lib.Dec.{ltb}
+use borrow.Author.Tests.{lt-ltb, le-ltb}
+use Rattle.counting.specs.Most.{support, before}
+use Rattle.counting.proofs.Most.{before_self, before_more, before_fewer, before_tie}
+use Rattle.tally.proofs.Leads.{lead_support, keeps_lead, takes_lead}
+use borrow.Author.Rules.{rules}
+use Rattle.tally.proofs.ahead.Goals as goal
+use Rattle.tally.proofs.ahead.Goals.{After-support_of-support, Else-support-lead, Start}
+
+-- where the support of v is known
+abbrev start_of : After-support_of-support → Start
+start_of c = (goal.at.After-support_of-support c).Start
+
+abbrev rows_of_lem : After-support_of-support → List ℕ
+rows_of_lem c = (start_of c).args.rows.now
+
+-- the lead's support is its row's
+own : (c : After-support_of-support) → (start_of c).args.lead.support ≡ support (rows_of_lem c) (start_of c).args.lead.row
+own c = lead_support _ _ (start_of c).args.v (start_of c).requires
+
+-- with as much support the lower row is before the other
+level : (c : After-support_of-support) → let a = (start_of c).args in a.lead.support ≡ c.support_of-support.result → before (rows_of_lem c) a.lead.row a.v ≡ ltb a.v a.lead.row
+level c e = before_tie _ _ _ (sym (own c) ∙ e ∙ c.support_of-support.ensures)
+
+-- where neither has more
+abbrev even_of : Else-support-lead → After-support_of-support
+even_of c = (goal.at.Else-support-lead c).After-support_of-support
+
+even : (c : Else-support-lead) → (start_of (even_of c)).args.lead.support ≡ (even_of c).support_of-support.result
+even c = omega (arith, c.if-lead-support.false, c.if-support-lead.false)
+
+pub returns-then-v-lead : goal.returns-then-v-lead
+returns-then-v-lead c =
+    let s = (goal.at.returns-then-v-lead c).Start in
+    let row = s.args.lead.row in
+    keeps_lead _ _ _ s.requires (ap (before _ row) c.if-v-lead.true ∙ before_self _ row)
+
+pub returns-then-lead-support : goal.returns-then-lead-support
+returns-then-lead-support c =
+    let f = (goal.at.returns-then-lead-support c).After-support_of-support in
+    let s = f.support_of-support in
+    takes_lead _ (start_of f).args.lead _ _ s.ensures
+    (before_more _ _ _ (omega (arith, own f, s.ensures, c.if-lead-support.true)))
+
+pub returns-then-support-lead : goal.returns-then-support-lead
+returns-then-support-lead c =
+    let f = (goal.at.returns-then-support-lead c).After-support_of-support in
+    keeps_lead _ _ _ (start_of f).requires
+    (before_fewer _ _ _ (omega (arith, own f, f.support_of-support.ensures, c.if-support-lead.true)))
+
+pub returns-then-v-lead-2 : goal.returns-then-v-lead-2
+returns-then-v-lead-2 c =
+    let e = (goal.at.returns-then-v-lead-2 c).Else-support-lead in
+    let s = (even_of e).support_of-support in
+    takes_lead _ (start_of (even_of e)).args.lead _ _ s.ensures
+    (level (even_of e) (even e) ∙ lt-ltb _ _ c.if-v-lead-2.true)
+
+pub returns : goal.returns
+returns c =
+    let e = (goal.at.returns c).Else-support-lead in
+    keeps_lead _ _ _ (start_of (even_of e)).requires (level (even_of e) (even e) ∙ le-ltb _ _ c.if-v-lead-2.false)
