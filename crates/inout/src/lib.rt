@@ -4,6 +4,11 @@
 ghost use Rattle.std.specs.Prelude.{◌≡◌, ◌+◌, ◌-◌, ◌≤◌, ◌<◌, length, take, drop};
 ghost use Rattle.lines.specs.Line.{line_writes};
 
+// The numbers of the three streams that every program has.
+pub const STANDARD_INPUT: i32 = 0;
+pub const STANDARD_OUTPUT: i32 = 1;
+pub const STANDARD_ERROR: i32 = 2;
+
 // Fills a part that lies within the bytes: reads until it is full, the input ends or a read fails.
 fn fill_part(bytes: &mut [u8], at: usize, end: usize) -> usize
     requires { (at ≤ end) × (end ≤ length bytes.old) }
@@ -11,16 +16,7 @@ fn fill_part(bytes: &mut [u8], at: usize, end: usize) -> usize
     ensures bytes_unchanged { take at bytes.new ≡ take at bytes.old }
     ensures bytes_unchanged_2 { drop end bytes.new ≡ drop end bytes.old }
 {
-    let mut place = at;
-    while place < end {
-        let got = libc::read(libc::STDIN_FILENO, &mut bytes[place..end]);
-        let more = io::count(got, &bytes[place..end]);
-        if more == 0 {
-            return place;
-        }
-        place += more;
-    }
-    place
+    at + io::read_full(STANDARD_INPUT, &mut bytes[at..end])
 }
 
 // Reads until the part of the bytes from a place to an end is full or the input ends, and gives the place behind the
@@ -46,5 +42,5 @@ pub fn print_line(text: &mut [u8], word: &[u8], numbers: &[u64])
     ensures { text.new ≡ line_writes word.now numbers.now text.old }
 {
     let size = lines::write_line(text, word, numbers).size;
-    io::write_all(libc::STDOUT_FILENO, &text[..size]);
+    io::write_all(STANDARD_OUTPUT, &text[..size]);
 }

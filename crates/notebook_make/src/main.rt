@@ -9,6 +9,7 @@ ghost use Rattle.std.specs.Prelude.{◌≡◌, ◌≤◌, length};
 ghost use Rattle.says.specs.Told.{told_text};
 
 use making::Maker;
+use std::io::{Read, Stdin};
 
 // What one read gave: whether it failed, and how many bytes came. None is the end of the text.
 #[derive(Clone, Copy)]
@@ -25,22 +26,28 @@ struct Taken {
 }
 
 // Reads what has come of the text, without waiting for more: what has come may be wrong already.
-fn read_piece(text: &mut [u8]) -> Piece
+fn read_piece(input: &mut Stdin, text: &mut [u8]) -> Piece
     ensures { result.size ≤ length text.new }
 {
-    let got = libc::read(libc::STDIN_FILENO, text);
-    let size = io::count(got, text);
-    let failed = got < 0;
-    Piece { failed, size }
+    match input.read(text) {
+        Ok(size) => Piece {
+            failed: false,
+            size,
+        },
+        Err(_) => Piece {
+            failed: true,
+            size: 0,
+        },
+    }
 }
 
 // Takes the text piece by piece, until it ends, its outcome is settled or a read fails. A proved loop has to end, and
 // nothing says that a text does: it counts its turns down from a number that no text uses up.
-fn take_text(text: &mut [u8], line: &mut [u8], file: &mut [u8]) -> Taken {
+fn take_text(input: &mut Stdin, text: &mut [u8], line: &mut [u8], file: &mut [u8]) -> Taken {
     let mut maker = making::no_text();
     let mut turns = u64::MAX;
     while turns > 0 && !making::is_settled(maker, line) {
-        let piece = read_piece(text);
+        let piece = read_piece(input, text);
         let size = piece.size;
         if size == 0 {
             return Taken {
@@ -64,7 +71,7 @@ fn tell(refusal: u8, line: u64, fault: u8) -> usize
 {
     let mut told = [0u8; 110];
     let size = says::tell(refusal, line, fault, &mut told).size;
-    io::write_all(libc::STDERR_FILENO, &told[0..size]);
+    io::write_all(inout::STANDARD_ERROR, &told[0..size]);
     size
 }
 
@@ -72,19 +79,20 @@ fn tell(refusal: u8, line: u64, fault: u8) -> usize
 fn finish(maker: Maker, line: &[u8], file: &mut [u8]) {
     let made = making::finish(maker, line, file);
     let size = made.size;
-    if !io::write_all(libc::STDOUT_FILENO, &file[0..size]) {
-        io::write_all(libc::STDERR_FILENO, b"cannot write to standard output\n");
+    if !io::write_all(inout::STANDARD_OUTPUT, &file[0..size]) {
+        io::write_all(inout::STANDARD_ERROR, b"cannot write to standard output\n");
     }
     tell(made.refusal, made.line, made.fault);
 }
 
-fn main() {
+fn main(rt: HostRuntime) {
     let mut text = [0u8; 65536];
     let mut line = [0u8; 1001];
     let mut file = [0u8; 182633];
-    let taken = take_text(&mut text, &mut line, &mut file);
+    let mut input = rt.stdin();
+    let taken = take_text(&mut input, &mut text, &mut line, &mut file);
     if taken.failed {
-        io::write_all(libc::STDERR_FILENO, b"cannot read standard input\n");
+        io::write_all(inout::STANDARD_ERROR, b"cannot read standard input\n");
         return;
     }
     finish(taken.maker, &line, &mut file);

@@ -10,5 +10,5 @@ fn main() {
     let mut text = [0u8; 2235];
     let listed = listing::list(&file[..size], &mut text);
     let end = listed.size;
-    io::write_all(libc::STDOUT_FILENO, &text[..end]);
+    io::write_all(inout::STANDARD_OUTPUT, &text[..end]);
 }

@@ -11,7 +11,7 @@ ghost use Rattle.says.specs.Told.{told_text};
 // Writes a part of the text. Was it written?
 fn write_part(file: &[u8], part: usize, text: &mut [u8]) -> bool {
     let size = showing::show(file, part, text).size;
-    io::write_all(libc::STDOUT_FILENO, &text[..size])
+    io::write_all(inout::STANDARD_OUTPUT, &text[..size])
 }
 
 // Writes so many parts of the text, from the first on. Were all of them written?
@@ -33,7 +33,7 @@ fn tell(refusal: u8) -> usize
 {
     let mut line = [0u8; 110];
     let size = says::tell(refusal, 0, 0, &mut line).size;
-    io::write_all(libc::STDERR_FILENO, &line[..size]);
+    io::write_all(inout::STANDARD_ERROR, &line[..size]);
     size
 }
 
@@ -41,7 +41,7 @@ fn tell(refusal: u8) -> usize
 fn show(file: &[u8], text: &mut [u8]) {
     let first = showing::show(file, 0, text);
     if !write_parts(file, first.parts, text) {
-        io::write_all(libc::STDERR_FILENO, b"cannot write to standard output\n");
+        io::write_all(inout::STANDARD_ERROR, b"cannot write to standard output\n");
     }
     tell(first.refusal);
 }

@@ -9,13 +9,25 @@
 ghost use Rattle.std.specs.Prelude.{◌≡◌, length};
 ghost use Rattle.why.specs.Answer.{answer_of};
 
+use std::env::{Env, FillError};
 use why::Number;
 
 // The box number that an argument is. One that is missing, or has more than 20 bytes, comes as an empty text.
-fn number_at(i: usize) -> Number {
+fn number_at(rt: &impl Env, i: usize) -> Number {
     let mut word = [0u8; 20];
-    let size = os::arg(i, &mut word);
-    why::read_number(&word[..size])
+    match rt.arg(i, &mut word) {
+        Ok(size) => why::read_number(&word[..size]),
+        Err(_) => why::read_number(b""),
+    }
+}
+
+// Has the program no argument at this place?
+fn is_missing(rt: &impl Env, i: usize) -> bool {
+    let mut word = [0u8; 20];
+    match rt.arg(i, &mut word) {
+        Err(FillError::NotPresent) => true,
+        _ => false,
+    }
 }
 
 // Prints the line. Gives its length, so that the contract says that all of it has room.
@@ -24,7 +36,7 @@ fn print_answer(file: &[u8], asked: u64, listed: u64) -> usize
 {
     let mut text = [0u8; 64];
     let size = why::answer(file, asked, listed, &mut text).size;
-    io::write_all(libc::STDOUT_FILENO, &text[..size]);
+    io::write_all(inout::STANDARD_OUTPUT, &text[..size]);
     size
 }
 
@@ -35,14 +47,14 @@ fn tell(asked: u64, listed: u64) {
     print_answer(&file[..size], asked, listed);
 }
 
-fn main() {
-    let asked = number_at(1);
-    let listed = number_at(2);
-    if os::arg_count() == 3 && asked.good && listed.good {
+fn main(rt: HostRuntime) {
+    let asked = number_at(&rt, 1);
+    let listed = number_at(&rt, 2);
+    if is_missing(&rt, 3) && asked.good && listed.good {
         tell(asked.value, listed.value);
     } else {
         io::write_all(
-            libc::STDERR_FILENO,
+            inout::STANDARD_ERROR,
             b"usage: notebook-why ASKED LISTED [FILE]\n",
         );
     }

@@ -86,7 +86,7 @@ fn print_front(text: &mut [u8], word: &[u8], numbers: &[u64]) {
         return;
     }
     let end = size - 1;
-    io::write_all(libc::STDOUT_FILENO, &text[..end]);
+    io::write_all(inout::STANDARD_OUTPUT, &text[..end]);
 }
 
 // How many places are printed in one piece: at most a thousand of those that are left.
@@ -128,7 +128,7 @@ fn print_places(text: &mut [u8], lent: &[u8]) {
 fn print_bytes(text: &mut [u8], word: &[u8], reply: &[u64], lent: &[u8]) {
     print_front(text, word, reply);
     print_places(text, lent);
-    io::write_all(libc::STDOUT_FILENO, b"\n");
+    io::write_all(inout::STANDARD_OUTPUT, b"\n");
 }
 
 // The head of a request: did all of it come, and the length of the slice to lend.
@@ -456,7 +456,7 @@ fn print_taken(maker: Maker, taken: &[u8], line: &mut [u8], lent: &mut [u8], tex
     print_front(text, b"taken", &numbers);
     print_places(text, line);
     print_places(text, lent);
-    io::write_all(libc::STDOUT_FILENO, b"\n");
+    io::write_all(inout::STANDARD_OUTPUT, b"\n");
 }
 
 // A text that is taken.

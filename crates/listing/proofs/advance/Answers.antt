@@ -11,63 +11,59 @@ use Rattle.sizes.specs.Sizes.{table_rows}
 use Rattle.sizes.proofs.Laws.{inside, by_n_inside, table_le}
 use Rattle.listing.specs.File.{table_bytes}
 use Rattle.listing.proofs.Table.{cut_short, moved_on}
-use borrow.Author.Rules.{rules}
 use Rattle.listing.proofs.advance.Goals as goal
-use Rattle.listing.proofs.advance.Goals.{After-begins-from, After-table_rows-rows, After-take_faulty, Start}
-
-abbrev start_of : After-begins-from → Start
-start_of c = (goal.at.After-begins-from c).Start
+use Rattle.listing.proofs.advance.Goals.{After-begins-from, After-take_faulty}
 
 -- inside 1 to 13 the table by n is the formula
-rows_of_lem : (c : After-table_rows-rows) → c.table_rows-rows.result ≡ table_rows c.args.s.n
-rows_of_lem c =
+rows_of : (c : After-begins-from) → c.table_rows-rows.result ≡ table_rows c.args.s.n
+rows_of c =
     c.table_rows-rows.ensures
-    ∙ by_n_inside table_rows _ (inside _ c.requires.0.low
-    c.requires.0.high)
+    ∙ by_n_inside table_rows _ (inside _ c.requires.0.low c.requires.0.high)
 
 -- where the faulty senders' rows were taken
 abbrev begins_of : After-take_faulty → After-begins-from
 begins_of c = (goal.at.After-take_faulty c).After-begins-from
 
 table_long : (c : After-take_faulty) → length c.take_faulty.new.table ≡ 4563
-table_long c = c.take_faulty.auto.table ∙ (start_of (begins_of c)).requires.1
+table_long c = c.take_faulty.auto.table ∙ c.requires.1
 
-rows_fit : (c : After-take_faulty) → (begins_of c).table_rows-rows.result ≤ length c.take_faulty.new.table
-rows_fit c =
-    omega (arith, table_long c, rows_of_lem (goal.at.After-begins-from (begins_of c)).After-table_rows-rows, table_le (start_of (begins_of c)).requires.0.high)
+rows_fit : (c : After-take_faulty) → c.table_rows-rows.result ≤ length c.take_faulty.new.table
+rows_fit c = omega (arith, table_long c, rows_of (begins_of c), table_le c.requires.0.high)
 
 pub overflow_mul-rows : goal.overflow_mul-rows
-overflow_mul-rows c = omega (arith, rows_of_lem (goal.at.overflow_mul-rows c).After-table_rows-rows, table_le (start_of c).requires.0.high)
+overflow_mul-rows c =
+    let b = (goal.at.overflow_mul-rows c).After-begins-from in
+    omega (arith, rows_of b, table_le c.requires.0.high)
 
 pub returns-then-bytes-from : goal.returns-then-bytes-from
 unfolding table_bytes
 returns-then-bytes-from c =
-    cut_short _ _ (start_of (goal.at.returns-then-bytes-from c).After-begins-from).requires.0
-    (omega (arith, rows_of_lem (goal.at.returns-then-bytes-from c).After-table_rows-rows, c.begins-from.ensures.0, c.if-bytes-from.true))
+    let b = (goal.at.returns-then-bytes-from c).After-begins-from in
+    cut_short _ _ c.requires.0 (omega (arith, rows_of b, c.begins-from.ensures.0, c.if-bytes-from.true))
 
 pub take_faulty-requires : goal.take_faulty-requires
 unfolding table_bytes
 take_faulty-requires c =
     let b = (goal.at.take_faulty-requires c).After-begins-from in
-    let from = b.begins-from.result in
-    let end = from + 8 * b.table_rows-rows.result in
-    let bytes = (start_of b).args.bytes.now in
+    let from = c.begins-from.result in
+    let end = from + 8 * c.table_rows-rows.result in
+    let bytes = c.args.bytes.now in
     let within : end ≤ length bytes =
-    omega (arith, c.if-bytes-from.false, (start_of b).requires.0.behind, b.begins-from.ensures.0) in
+    omega (arith, c.if-bytes-from.false, c.requires.0.behind, c.begins-from.ensures.0) in
     let long = mid_len from end bytes within in
-    ((start_of b).requires.0.high, omega (arith, long, rows_of_lem (goal.at.After-begins-from b).After-table_rows-rows), (start_of b).requires.1)
+    (c.requires.0.high, omega (arith, long, rows_of b), c.requires.1)
 
 pub slice_bounds-iterate-end : goal.slice_bounds-iterate-end
 slice_bounds-iterate-end c = rows_fit (goal.at.slice_bounds-iterate-end c).After-take_faulty
 
 pub slice_bounds-iterate-end-2 : goal.slice_bounds-iterate-end-2
-slice_bounds-iterate-end-2 c = sym (length-take-le _ _ (rows_fit (goal.at.slice_bounds-iterate-end-2 c).After-take_faulty))
+slice_bounds-iterate-end-2 c =
+    let f = (goal.at.slice_bounds-iterate-end-2 c).After-take_faulty in
+    sym (length-take-le _ _ (rows_fit f))
 
 pub returns : goal.returns
 unfolding table_bytes
 returns c =
     let f = (goal.at.returns c).After-take_faulty in
-    let b = begins_of f in
-    let whole = f.if-bytes-from.false in
-    moved_on _ _ (start_of b).requires.0 _ _ _ _ (rows_of_lem (goal.at.After-begins-from b).After-table_rows-rows) b.begins-from.ensures.0 whole refl
-    f.take_faulty.ensures (table_long f) _ c.iterate.ensures
+    moved_on _ _ c.requires.0 _ _ _ _ (rows_of (begins_of f)) c.begins-from.ensures.0 c.if-bytes-from.false refl
+    c.take_faulty.ensures (table_long f) _ c.iterate.ensures

@@ -10,7 +10,6 @@ use Rattle.runfile.specs.declared.Heading.{Heading}
 use Rattle.run.specs.declared.Next.{Next}
 use Rattle.listing.specs.File.{heading, reply_after, state_after, refused_start}
 use Rattle.listing.proofs.Heading.{first_refused, first_passed, heading_high, start_reply_lem}
-use borrow.Author.Rules.{rules}
 use Rattle.listing.proofs.begin.Goals as goal
 use Rattle.listing.proofs.begin.Goals.{After-read_heading-heading, After-start, Else-heading-ne0}
 
@@ -30,13 +29,13 @@ ok : (c : Else-heading-ne0) → (heading (bytes_of c)).refusal ≡ 0
 ok c = sym (ap (λ (r : Heading). r.refusal) (is_heading (read_of c))) ∙ c.if-heading-ne0.false
 
 -- the rows that were written have room for n of them
-room_of : (c : Else-heading-ne0) → (read_of c).read_heading-heading.result.n ≤ length (read_of c).read_heading-heading.new.rows
+room_of : (c : Else-heading-ne0) → c.read_heading-heading.result.n ≤ length c.read_heading-heading.new.rows
 room_of c =
     omega (
       arith,
       heading_high (bytes_of c) (ok c),
       ap (λ (r : Heading). r.n) (is_heading (read_of c)),
-      (read_of c).read_heading-heading.auto.rows,
+      c.read_heading-heading.auto.rows,
     )
 
 -- the start's reply
@@ -67,6 +66,8 @@ pub returns : goal.returns
 unfolding refused_start state_after
 returns c =
     record {
-      number = ap (λ (r : Next). r.refusal) (starts c) ∙ sym (first_passed _ _ (ok (goal.at.returns c).Else-heading-ne0));
+      number =
+          ap (λ (r : Next). r.refusal) (starts c)
+          ∙ sym (first_passed _ _ (ok (goal.at.returns c).Else-heading-ne0));
       state = λ z. ap (λ (r : Next). r.run) (starts c);
     }

@@ -1,6 +1,5 @@
 -- `listing::begins` meets its contract: inside 1 to 13 the reply is the formula, and five of the largest tables behind
 -- the largest heading are 182,633 bytes. Assumes nothing.
-use borrow.Author.Rules.{rules}
 use Rattle.listing.proofs.Behind.{begins_inside, begins_most}
 use Rattle.listing.proofs.begins.Goals as goal
 use Rattle.listing.proofs.begins.Goals.{Start}

@@ -2,7 +2,6 @@
 -- nothing.
 use borrow.Author.Tests.{lt-ltb, le-ltb}
 use mathlib.Core.Path.{refl}
-use borrow.Author.Rules.{rules}
 use Rattle.listing.proofs.end_refusal.Goals as goal
 
 pub returns-then-begins-bytes : goal.returns-then-begins-bytes

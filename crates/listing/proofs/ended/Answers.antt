@@ -3,7 +3,6 @@
 use mathlib.Core.Path.{refl}
 use borrow.Author.Tests.{ne_eqb}
 use Rattle.listing.specs.Listing.{ended_by}
-use borrow.Author.Rules.{rules}
 use Rattle.listing.proofs.ended.Goals as goal
 
 pub returns-then-refusal-ne0 : goal.returns-then-refusal-ne0

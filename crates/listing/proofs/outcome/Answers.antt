@@ -1,7 +1,6 @@
 -- `listing::outcome` meets its contract: it is the outcome of the listing, whose text is put together and left.
 -- Assumes nothing.
 use mathlib.Core.Path.{◌≡◌, sym, ◌∙◌}
-use borrow.Author.Rules.{rules}
 use Rattle.listing.proofs.outcome.Reads as Reads
 use Rattle.listing.proofs.outcome.Goals as goal
 

@@ -1,7 +1,7 @@
 -- `listing::put_boxes` meets its contract: after each turn the lines of the boxes before this one stand there, 37
 -- bytes at most for each. What falls is the number of boxes left. Assumes nothing.
 use mathlib.Core.Path.{◌≡◌, refl, sym, ap, subst}
-use Prim.Native.Nat.{ℕ, ◌+◌, ◌-◌, ◌*◌, ◌≤◌, ◌<◌}
+use Prim.Native.Nat.{ℕ, ◌≤◌, ◌<◌}
 use native.Mathlib.Numerals.{add-one}
 use native.Mathlib.Omega.{arith}
 use lib.ListN.{length}
@@ -34,7 +34,7 @@ loop-i-preserved c =
     let room : c.put_box-end.result ≤ length a.text.now =
     omega (arith, e.1, inv.3, few turn, start.requires.1) in
     let put = put_then inv.2 e.0 room in
-    let parts = with_parts a.faulty a.done a.t4 a.t5 in (
+    let parts = with_parts a.faulty a.done a.rows a.lists in (
       search rules,
       put_long put room,
       subst (Put _ _ _ _) (ap (box_lines parts) (sym (add-one turn.loop-i.i))) put,
@@ -48,6 +48,6 @@ returns c =
     let all : c.loop-i.i ≡ start.args.n = omega arith in
     let a = start.args in (
       subst (λ (k : ℕ). Put a.text.now c.loop-i.text a.at c.loop-i.end
-          (box_lines (with_parts a.faulty a.done a.t4 a.t5) k)) all inv.2,
+          (box_lines (with_parts a.faulty a.done a.rows a.lists) k)) all inv.2,
       omega (arith, inv.3, all, start.requires.0),
     )

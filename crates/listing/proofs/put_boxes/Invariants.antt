@@ -1,14 +1,10 @@
 -- `listing::put_boxes` meets its contract: after each turn the lines of the boxes before this one stand there, 37
 -- bytes at most for each. What falls is the number of boxes left. Assumes nothing.
-use mathlib.Core.Path.{◌≡◌, refl, sym, ap, subst}
-use Prim.Native.Nat.{ℕ, ◌+◌, ◌-◌, ◌*◌, ◌≤◌, ◌<◌}
-use native.Mathlib.Numerals.{add-one}
-use native.Mathlib.Omega.{arith}
+use mathlib.Core.Path.{◌≡◌}
+use Prim.Native.Nat.{◌+◌, ◌-◌, ◌*◌, ◌≤◌}
 use lib.ListN.{length}
 use Rattle.listing.specs.Inside.{Put, with_parts}
-use Rattle.listing.specs.Listing.{box_line, box_lines}
-use Rattle.listing.proofs.Text.{put_nothing, put_then, put_long}
-use borrow.Author.Rules.{rules}
+use Rattle.listing.specs.Listing.{box_lines}
 use Rattle.listing.proofs.put_boxes.Given as goal
 
 abbrev pub invariant-loop-i : goal.invariant-loop-i

@@ -4,32 +4,26 @@ use mathlib.Core.List.{[], ◌∷◌}
 use borrow.Author.Tests.{eq-eqb, ne_eqb}
 use Rattle.listing.specs.Listing.{sent_word, refused_word, last_line}
 use Rattle.listing.proofs.Text.{put_line, sent_most, refused_most}
-use borrow.Author.Rules.{rules}
 use Rattle.listing.proofs.put_last.Goals as goal
-use Rattle.listing.proofs.put_last.Goals.{After-put_line-arg-1, After-put_line-arg-2-1, After-slice_known-1}
 
 pub returns-then-refusal-ne0 : goal.returns-then-refusal-ne0
 unfolding last_line
 returns-then-refusal-ne0 c =
-    let branch = (goal.at.returns-then-refusal-ne0 c).After-put_line-arg-1 in
-    let s = (goal.at.After-put_line-arg-1 branch).After-slice_known-1 in
-    let a = s.args in
+    let a = c.args in
     let e = c.put_line.ensures in
     let put =
     put_line refused_word (a.refusal ∷ []) a.text.now _ a.at _ 26
-    (refused_most a.refusal s.ranges.refusal.fits)
-    s.requires e.0 e.1 in
-    rw (ne_eqb a.refusal 0 branch.if-refusal-ne0.true) put
+    (refused_most a.refusal c.ranges.refusal.fits)
+    c.requires e.value e.text_after in
+    rw (ne_eqb a.refusal 0 c.if-refusal-ne0.true) put
 
 pub returns : goal.returns
 unfolding last_line
 returns c =
-    let branch = (goal.at.returns c).After-put_line-arg-2-1 in
-    let s = (goal.at.After-put_line-arg-2-1 branch).After-slice_known-1 in
-    let a = s.args in
+    let a = c.args in
     let e = c.put_line-2.ensures in
     let put =
     put_line sent_word (a.sent ∷ []) a.text.now _ a.at _ 26
-    (sent_most a.sent s.ranges.sent.fits)
-    s.requires e.0 e.1 in
-    rw (eq-eqb a.refusal 0 branch.if-refusal-ne0.false) put
+    (sent_most a.sent c.ranges.sent.fits)
+    c.requires e.value e.text_after in
+    rw (eq-eqb a.refusal 0 c.if-refusal-ne0.false) put

@@ -11,22 +11,21 @@ use Rattle.listing.specs.File.{table_bytes, table_begins, begins_reply}
 use borrow.Author.Rules.{rules}
 use Rattle.listing.proofs.table_begins.Reads as Reads
 use Rattle.listing.proofs.table_begins.Goals as goal
-use Rattle.listing.proofs.table_begins.Goals.{After-table_rows, Start}
-
-abbrev start_of : After-table_rows → Start
-start_of c = (goal.at.After-table_rows c).Start
+use Rattle.listing.proofs.table_begins.Goals.{After-table_rows}
 
 -- inside 1 to 13: n, the rows of a table, and the bytes of so many tables
-inside_of : (c : After-table_rows) → (1 ≤ (start_of c).args.n) × ((start_of c).args.n ≤ 13)
+inside_of : (c : After-table_rows) → (1 ≤ c.args.n) × (c.args.n ≤ 13)
 inside_of c = (search rules, search rules)
 
-rows_of_lem : (c : After-table_rows) → c.table_rows.result ≡ table_rows (start_of c).args.n
-rows_of_lem c = c.table_rows.ensures ∙ by_n_inside table_rows _ (inside _ (inside_of c).0 (inside_of c).1)
+rows_of : (c : After-table_rows) → c.table_rows.result ≡ table_rows c.args.n
+rows_of c = c.table_rows.ensures ∙ by_n_inside table_rows _ (inside _ (inside_of c).0 (inside_of c).1)
 
-most_of : (c : After-table_rows) → (8 * c.table_rows.result ≤ 36504) × ((start_of c).args.m * (8 * c.table_rows.result) ≤ 255 * 36504)
+most_of : (c : After-table_rows) →
+    (8 * c.table_rows.result ≤ 36504)
+    × (c.args.m * (8 * c.table_rows.result) ≤ 255 * 36504)
 most_of c =
-    let one : 8 * c.table_rows.result ≤ 36504 = omega (arith, rows_of_lem c, table_le (inside_of c).1) in
-    let few : (start_of c).args.m ≤ 255 = search rules in
+    let one : 8 * c.table_rows.result ≤ 36504 = omega (arith, rows_of c, table_le (inside_of c).1) in
+    let few : c.args.m ≤ 255 = search rules in
     (one, mul-le-mul few one)
 
 -- the contract admits one reply
@@ -45,8 +44,8 @@ overflow_add-result-in-1-to-13 c = omega (arith, most_of c, (inside_of c).1)
 pub returns-in-1-to-13 : goal.returns-in-1-to-13
 unfolding begins_reply table_begins table_bytes heading_bytes
 returns-in-1-to-13 c =
-    let a = (start_of c).args in
-    ap (λ (rows : ℕ). 9 + 8 * a.n + a.m * (8 * rows)) (rows_of_lem c)
+    let a = c.args in
+    ap (λ (rows : ℕ). 9 + 8 * a.n + a.m * (8 * rows)) (rows_of c)
     ∙ sym (by_n_inside (λ k. table_begins k a.m) _ (inside _ (inside_of c).0 (inside_of c).1))
 
 pub returns-in_default : goal.returns-in_default

@@ -1,14 +1,9 @@
 -- `listing::take_faulty` meets its contract: after each turn the faulty senders before this one are taken, and the
 -- slice is as long. What falls is the number of senders left. Assumes nothing.
-use mathlib.Core.Path.{◌≡◌, ◌∙◌}
+use mathlib.Core.Path.{◌≡◌}
 use Prim.Native.Nat.{◌≤◌, ◌-◌}
-use native.Mathlib.Nat.{not-suc-le-zero}
-use native.Mathlib.Omega.{arith}
-use borrow.Author.Count.{below_more}
 use lib.ListN.{length}
 use Rattle.listing.specs.Inside.{TakenTo}
-use Rattle.listing.proofs.Sender.{taken_kept}
-use borrow.Author.Rules.{rules}
 use Rattle.listing.proofs.take_faulty.Given as goal
 
 abbrev pub invariant-loop-sender : goal.invariant-loop-sender

@@ -2,7 +2,6 @@
 -- and nothing changes. Assumes nothing.
 use mathlib.Core.Path.{refl, sym, ◌∙◌}
 use Rattle.counting.proofs.Bools.{never}
-use borrow.Author.Rules.{rules}
 use Rattle.listing.proofs.take_if_faulty.Goals as goal
 
 pub returns-else-is_member : goal.returns-else-is_member

@@ -7,7 +7,6 @@ use lib.ListN.{length}
 use Rattle.listing.specs.Inside.{Put}
 use Rattle.listing.proofs.Text.{put_then}
 use Rattle.listing.proofs.Whole.{with_last}
-use borrow.Author.Rules.{rules}
 use Rattle.listing.proofs.tell.Goals as goal
 use Rattle.listing.proofs.tell.Goals.{After-put_last-size, After-tell_lines-told, Start}
 

@@ -3,7 +3,7 @@
 -- the loop where the listing ends. What falls is the number of iterations due. Assumes nothing.
 use mathlib.Core.Path.{◌≡◌, refl, sym, ap, subst, ◌∙◌}
 use mathlib.Core.List.{List}
-use Prim.Native.Nat.{ℕ, ◌+◌, ◌-◌, ◌*◌, ◌≤◌, ◌<◌}
+use Prim.Native.Nat.{ℕ, ◌+◌, ◌≤◌, ◌<◌}
 use native.Mathlib.Omega.{arith}
 use lib.ListN.{length}
 use Rattle.listing.specs.Inside.{Put}
@@ -28,9 +28,8 @@ use Rattle.listing.proofs.Iterations.{
   lines_by,
   lines_turn,
 }
-use borrow.Author.Rules.{rules}
 use Rattle.listing.proofs.tell_iterations.Goals as goal
-use Rattle.listing.proofs.tell_iterations.Goals.{After-advance-next, After-loop-s, After-put_boxes-arg-1, At-loop-s, Else-next-ne0, Start}
+use Rattle.listing.proofs.tell_iterations.Goals.{After-advance-next, After-loop-s, At-loop-s, Else-next-ne0, Start}
 
 -- the start of the function, where the loop's test is reached
 abbrev start_of : At-loop-s → Start
@@ -55,14 +54,13 @@ goes c =
     let a = advance_of c in
     going_on _ _ (turn_of a).loop-s.invariant.0 _ a.advance-next.ensures c.if-next-ne0.false (due_of a)
 
-kept : (c : Else-next-ne0) → ((advance_of c).advance-next.result.run.n ≡ (turn_of (advance_of c)).loop-s.s.n) × ((advance_of c).advance-next.result.run.t ≡ (turn_of (advance_of c)).loop-s.s.t) × ((advance_of c).advance-next.result.run.done ≡ (turn_of (advance_of c)).loop-s.s.done + 1)
+kept : (c : Else-next-ne0) →
+    (c.advance-next.result.run.n ≡ c.loop-s.s.n)
+    × (c.advance-next.result.run.t ≡ c.loop-s.s.t)
+    × (c.advance-next.result.run.done ≡ c.loop-s.s.done + 1)
 kept c =
     let a = advance_of c in
     next_kept _ _ (turn_of a).loop-s.invariant.0 _ a.advance-next.ensures c.if-next-ne0.false
-
--- where the next state goes on, from where the text is lent
-abbrev lent_of : After-put_boxes-arg-1 → Else-next-ne0
-lent_of c = (goal.at.After-put_boxes-arg-1 c).Else-next-ne0
 
 pub loop-s-init : goal.loop-s-init
 unfolding iteration_lines
@@ -72,8 +70,10 @@ loop-s-init c =
 
 pub advance-next-requires : goal.advance-next-requires
 advance-next-requires c =
-    let t = (goal.at.advance-next-requires c).At-loop-s in
-    (underway _ _ t.loop-s.invariant.0 (omega (arith, c.loop-s-test.true)), t.loop-s.invariant.1 ∙ (start_of t).requires.1)
+    let t = (goal.at.advance-next-requires c).At-loop-s in (
+      underway _ _ t.loop-s.invariant.0 (omega (arith, c.loop-s-test.true)),
+      t.loop-s.invariant.1 ∙ (start_of t).requires.1,
+    )
 
 pub returns-then-next-ne0 : goal.returns-then-next-ne0
 returns-then-next-ne0 c =
@@ -95,7 +95,7 @@ returns-then-next-ne0 c =
 
 pub put_boxes-size-requires : goal.put_boxes-size-requires
 put_boxes-size-requires c =
-    let e = lent_of c in
+    let e = (goal.at.put_boxes-size-requires c).Else-next-ne0 in
     let t = turn_of (advance_of e) in (
       going_high _ _ (goes e),
       omega (
@@ -111,12 +111,12 @@ put_boxes-size-requires c =
 
 pub loop-s-smaller : goal.loop-s-smaller
 loop-s-smaller c =
-    let e = lent_of (goal.at.loop-s-smaller c).After-put_boxes-arg-1 in
+    let e = (goal.at.loop-s-smaller c).Else-next-ne0 in
     omega (arith, kept e, due_of (advance_of e))
 
 pub loop-s-preserved : goal.loop-s-preserved
 loop-s-preserved c =
-    let e = lent_of (goal.at.loop-s-preserved c).After-put_boxes-arg-1 in
+    let e = (goal.at.loop-s-preserved c).Else-next-ne0 in
     let a = advance_of e in
     let t = turn_of a in
     let g = t.loop-s.invariant.0 in

@@ -11,7 +11,7 @@ use Rattle.listing.proofs.Text.{put_nothing, put_then}
 use Rattle.listing.proofs.Whole.{early_outcome, early_lines, is_started, all_lines}
 use borrow.Author.Rules.{rules}
 use Rattle.listing.proofs.tell_lines.Goals as goal
-use Rattle.listing.proofs.tell_lines.Goals.{After-put_run-size, After-struct_known-1, After-tell_iterations, Else-first-ne0, Start}
+use Rattle.listing.proofs.tell_lines.Goals.{After-put_run-size, After-tell_iterations, Else-first-ne0, Start}
 
 -- where neither the heading nor the start was refused
 abbrev start_of : Else-first-ne0 → Start
@@ -31,11 +31,10 @@ begun c = is_started (bytes_of c) (ok c) _ (state_of c)
 
 pub returns-then-first-ne0 : goal.returns-then-first-ne0
 returns-then-first-ne0 c =
-    let b = (goal.at.returns-then-first-ne0 c).After-struct_known-1 in
-    let bytes = b.args.bytes.now in
-    let refused : refused_start bytes ≡ 0 → ⊥ = λ z. c.if-first-ne0.true (b.begin-first.ensures.number ∙ z) in (
+    let bytes = c.args.bytes.now in
+    let refused : refused_start bytes ≡ 0 → ⊥ = λ z. c.if-first-ne0.true (c.begin-first.ensures.number ∙ z) in (
       record {
-        outcome = c.ended.ensures ∙ early_outcome bytes refused _ _ b.begin-first.ensures.number;
+        outcome = c.ended.ensures ∙ early_outcome bytes refused _ _ c.begin-first.ensures.number;
         text = rw (early_lines bytes refused) (put_nothing _ _);
       },
       search rules,

@@ -10,7 +10,6 @@ use Rattle.run.specs.declared.Run.{Run}
 use Rattle.run.specs.Inside.{asking_refusal}
 use Rattle.run.specs.State.{bad_state, overdone}
 use Rattle.run.specs.Why.{not_asked}
-use borrow.Author.Rules.{rules}
 use Rattle.run.proofs.asking_refusal.Goals as goal
 use Rattle.run.proofs.asking_refusal.Goals.{Else-is_bad_state, Else-is_not_asked, Else-s}
 
@@ -22,11 +21,15 @@ not_over : (c : Else-s) → overdone (state_of c) ≡ false
 unfolding overdone
 not_over c = le-ltb _ _ c.if-s.false
 
-good : (c : Else-is_bad_state) → (overdone (state_of (goal.at.Else-is_bad_state c).Else-s) || bad_state (state_of (goal.at.Else-is_bad_state c).Else-s)) ≡ false
+good : (c : Else-is_bad_state) →
+    let s = state_of (goal.at.Else-is_bad_state c).Else-s in
+    (overdone s || bad_state s) ≡ false
 good c = or_none (not_over (goal.at.Else-is_bad_state c).Else-s) (sym c.is_bad_state.ensures ∙ c.if-is_bad_state.false)
 
 -- where the box can be asked
-can_be : (c : Else-is_not_asked) → let first = (goal.at.Else-is_not_asked c).Else-s in not_asked (state_of first) first.args.asked ≡ false
+can_be : (c : Else-is_not_asked) →
+    let first = (goal.at.Else-is_not_asked c).Else-s in
+    not_asked (state_of first) first.args.asked ≡ false
 unfolding not_asked
 can_be c = sym c.is_not_asked.ensures ∙ c.if-is_not_asked.false
 
@@ -50,7 +53,8 @@ pub returns-then-is_not_asked : goal.returns-then-is_not_asked
 unfolding asking_refusal not_asked
 returns-then-is_not_asked c =
     let not = sym c.is_not_asked.ensures ∙ c.if-is_not_asked.true in
-    sym (passed 14 _ (good (goal.at.returns-then-is_not_asked c).Else-is_bad_state) ∙ refused 15 _ (or_true_left _ not))
+    let fit = good (goal.at.returns-then-is_not_asked c).Else-is_bad_state in
+    sym (passed 14 _ fit ∙ refused 15 _ (or_true_left _ not))
 
 pub returns-then-is_no_box : goal.returns-then-is_no_box
 unfolding asking_refusal
@@ -59,11 +63,13 @@ returns-then-is_no_box c =
     let none = sym c.is_no_box.ensures ∙ c.if-is_no_box.true in
     let first = (goal.at.Else-is_not_asked three).Else-s in
     let not = not_asked (state_of first) first.args.asked in
-    sym (passed 14 _ (good (goal.at.Else-is_not_asked three).Else-is_bad_state) ∙ refused 15 [] (or_true_right not none))
+    let fit = good (goal.at.Else-is_not_asked three).Else-is_bad_state in
+    sym (passed 14 _ fit ∙ refused 15 [] (or_true_right not none))
 
 pub returns : goal.returns
 unfolding asking_refusal
 returns c =
     let three = (goal.at.returns c).Else-is_not_asked in
     let is = sym c.is_no_box.ensures ∙ c.if-is_no_box.false in
-    sym (passed 14 _ (good (goal.at.Else-is_not_asked three).Else-is_bad_state) ∙ passed 15 [] (or_none (can_be three) is) ∙ none_left)
+    let fit = good (goal.at.Else-is_not_asked three).Else-is_bad_state in
+    sym (passed 14 _ fit ∙ passed 15 [] (or_none (can_be three) is) ∙ none_left)

@@ -27,7 +27,8 @@ abbrev first_of : After-rows-2-1 → Else-refusal-ne0
 first_of c = (goal.at.After-rows-2-1 c).Else-refusal-ne0
 
 pub returns-then-refusal-ne0 : goal.returns-then-refusal-ne0
-returns-then-refusal-ne0 c = let e = c.setting_refusal-refusal.ensures in e ∙ first_fails _ (λ z. c.if-refusal-ne0.true (e ∙ z))
+returns-then-refusal-ne0 c =
+    let e = c.setting_refusal-refusal.ensures in e ∙ first_fails _ (λ z. c.if-refusal-ne0.true (e ∙ z))
 
 pub has_sound_zero-requires : goal.has_sound_zero-requires
 has_sound_zero-requires c =

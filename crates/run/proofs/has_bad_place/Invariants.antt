@@ -1,10 +1,8 @@
 -- `run::has_bad_place` meets its contract: a turn ends the search at a bad place, and otherwise none of the first k +
 -- 1 is bad. What is left of 13 falls. Assumes nothing.
 use Prim.Native.Nat.{◌-◌}
-use native.Mathlib.Omega.{arith}
-use Rattle.counting.proofs.Loops.{NoneYet, search_begins, search_turn, search_hits, search_ends}
+use Rattle.counting.proofs.Loops.{NoneYet}
 use Rattle.run.specs.State.{bad_place}
-use borrow.Author.Rules.{rules}
 use Rattle.run.proofs.has_bad_place.Given as goal
 
 abbrev pub invariant-loop-k : goal.invariant-loop-k

@@ -2,25 +2,28 @@
 -- turns the first i have none, and those on their lists are counted. Then the places that keep something decide. What
 -- is left of n falls. Assumes nothing.
 use mathlib.Core.Path.{◌≡◌, refl, sym, ap₂, ◌∙◌}
-use mathlib.Core.Bool.{Bool, not}
-use mathlib.Core.List.{List}
-use Prim.Native.Nat.{ℕ, ◌+◌, ◌-◌, ◌*◌, ◌/◌, ◌%◌, ◌<◌}
+use mathlib.Core.Bool.{not}
+use Prim.Native.Nat.{ℕ, ◌*◌, ◌/◌, ◌%◌, ◌<◌}
 use native.Mathlib.Omega.{arith}
 use lib.Dec.{eqb}
 use lib.ListN.{get_or}
-use Rattle.counting.specs.Count.{any, count}
+use Rattle.counting.specs.Count.{count}
 use Rattle.counting.specs.Sets.{member}
 use Rattle.counting.proofs.Count.{any_none, count_le}
-use Rattle.counting.proofs.Loops.{NoneYet, search_begins, search_turn, search_ends}
-use Rattle.run.specs.declared.Reasons.{Reasons}
-use Rattle.run.specs.Inside.{bad_listing}
-use Rattle.run.specs.Iteration.{reason_from, reason_in, reason_at}
+use Rattle.counting.proofs.Loops.{search_begins, search_turn, search_ends}
+use Rattle.run.specs.Iteration.{reason_in, reason_at}
 use Rattle.run.specs.State.{listed_by}
 use Rattle.run.proofs.Reckoned.{list_within, listed_more, listed_all, some_bad, by_count}
 use borrow.Author.Rules.{rules}
-use Rattle.run.proofs.has_bad_reason.Invariants.{bad}
 use Rattle.run.proofs.has_bad_reason.Goals as goal
-use Rattle.run.proofs.has_bad_reason.Goals.{After-look_at-arg-in-loop-i-5-1, After-look_at-looked, At-loop-i, Else-looked, In-loop-i, Start}
+use Rattle.run.proofs.has_bad_reason.Goals.{
+  After-look_at-arg-in-loop-i-5-1,
+  After-look_at-looked,
+  At-loop-i,
+  Else-looked,
+  In-loop-i,
+  Start,
+}
 
 -- a turn
 abbrev start_of : In-loop-i → Start
@@ -38,7 +41,9 @@ abbrev turn_of : After-look_at-looked → In-loop-i
 turn_of c = lent_of (goal.at.After-look_at-looked c).After-look_at-arg-in-loop-i-5-1
 
 -- how many are on the list of box i
-listed_of : (c : Else-looked) → let turn = turn_of (goal.at.Else-looked c).After-look_at-looked in c.look_at-looked.result.listed ≡ count 13 (member (get_or (start_of turn).args.s.lists turn.loop-i.i 0))
+listed_of : (c : Else-looked) →
+    let turn = turn_of (goal.at.Else-looked c).After-look_at-looked in
+    c.look_at-looked.result.listed ≡ count 13 (member (get_or (start_of turn).args.s.lists turn.loop-i.i 0))
 listed_of c = c.look_at-looked.ensures.listed_value c.if-looked.false
 
 pub loop-i-init : goal.loop-i-init
@@ -49,7 +54,10 @@ pub look_at-looked-requires : goal.look_at-looked-requires
 look_at-looked-requires c =
     let turn = lent_of c in
     let p = (start_of turn).requires in
-    record { n_bound = (p.0, few turn, list_within _ p.0 p.1 _ (few turn)); iterations_len = (search rules, search rules, search rules) }
+    record {
+      n_bound = (p.0, few turn, list_within _ p.0 p.1 _ (few turn));
+      iterations_len = (search rules, search rules, search rules);
+    }
 
 pub returns-then-looked : goal.returns-then-looked
 unfolding reason_at reason_in

@@ -1,23 +1,17 @@
 -- `run::has_bad_reason` meets its contract: a turn ends the search at a box with a bad reason on its list; after i
 -- turns the first i have none, and those on their lists are counted. Then the places that keep something decide. What
 -- is left of n falls. Assumes nothing.
-use mathlib.Core.Path.{◌≡◌, refl, sym, ap₂, ◌∙◌}
-use mathlib.Core.Bool.{Bool, not}
+use mathlib.Core.Path.{◌≡◌}
+use mathlib.Core.Bool.{Bool}
 use mathlib.Core.List.{List}
-use Prim.Native.Nat.{ℕ, ◌+◌, ◌-◌, ◌*◌, ◌/◌, ◌%◌, ◌<◌}
-use native.Mathlib.Omega.{arith}
-use lib.Dec.{eqb}
+use Prim.Native.Nat.{ℕ, ◌+◌, ◌-◌, ◌*◌, ◌/◌, ◌%◌}
 use lib.ListN.{get_or}
 use Rattle.counting.specs.Count.{any, count}
 use Rattle.counting.specs.Sets.{member}
-use Rattle.counting.proofs.Count.{any_none, count_le}
-use Rattle.counting.proofs.Loops.{NoneYet, search_begins, search_turn, search_ends}
+use Rattle.counting.proofs.Loops.{NoneYet}
 use Rattle.run.specs.declared.Reasons.{Reasons}
 use Rattle.run.specs.Inside.{bad_listing}
-use Rattle.run.specs.Iteration.{reason_from, reason_in, reason_at}
-use Rattle.run.specs.State.{listed_by}
-use Rattle.run.proofs.Reckoned.{list_within, listed_more, listed_all, some_bad, by_count}
-use borrow.Author.Rules.{rules}
+use Rattle.run.specs.Iteration.{reason_from}
 use Rattle.run.proofs.has_bad_reason.Given as goal
 
 -- has some box on the list of box i a bad reason?

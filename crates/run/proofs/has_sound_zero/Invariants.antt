@@ -2,12 +2,10 @@
 -- the first k + 1 is one. What is left of n falls. Assumes nothing.
 use mathlib.Core.Bool.{◌&&◌}
 use Prim.Native.Nat.{◌-◌}
-use native.Mathlib.Omega.{arith}
 use lib.Dec.{eqb}
 use lib.ListN.{get_or}
-use Rattle.counting.proofs.Loops.{NoneYet, search_begins, search_turn, search_hits, search_ends}
-use Rattle.sizes.specs.Sizes.{sound, sound_zero}
-use borrow.Author.Rules.{rules}
+use Rattle.counting.proofs.Loops.{NoneYet}
+use Rattle.sizes.specs.Sizes.{sound}
 use Rattle.run.proofs.has_sound_zero.Given as goal
 
 abbrev pub invariant-loop-k : goal.invariant-loop-k

@@ -6,12 +6,13 @@ use lib.Dec.{eqb}
 use borrow.Author.Tests.{eq-eqb, ne_eqb}
 use Rattle.run.specs.State.{bad_entry}
 use Rattle.run.proofs.Entries.{bad_box_lem, bad_none}
-use borrow.Author.Rules.{rules}
 use Rattle.run.proofs.is_bad_place.Goals as goal
 use Rattle.run.proofs.is_bad_place.Goals.{Else-is_sound_box}
 
 -- in a faulty or unused place the row and the list decide
-elsewhere : (c : Else-is_sound_box) (b : Bool) → let a = c.args in eqb a.row 0 ≡ b → (not b || not (eqb a.list 0)) ≡ bad_entry a.n a.faulty a.k a.row a.list
+elsewhere : (c : Else-is_sound_box) (b : Bool) →
+    let a = c.args in
+    eqb a.row 0 ≡ b → (not b || not (eqb a.list 0)) ≡ bad_entry a.n a.faulty a.k a.row a.list
 elsewhere c b e =
     ap (λ (is : Bool). not is || not (eqb c.args.list 0)) (sym e)
     ∙ bad_none _ _ _ _ _ (sym c.is_sound_box.ensures ∙ c.if-is_sound_box.false)

@@ -4,16 +4,15 @@ use mathlib.Core.Path.{◌≡◌, sym, ap, ◌∙◌}
 use mathlib.Core.Bool.{Bool, true, not, ◌&&◌}
 use Prim.Native.Nat.{ℕ}
 use lib.Dec.{eqb}
-use Rattle.counting.proofs.Bools.{both, not_both, not_true, not_false}
+use Rattle.counting.proofs.Bools.{both, not_both}
 use Rattle.run.specs.State.{bad_reason}
 use Rattle.run.proofs.Listings.{bad_unsaid, bad_early, bad_sure, bad_by_fit}
-use borrow.Author.Rules.{rules}
 use Rattle.run.proofs.is_bad_reason.Goals as goal
 use Rattle.run.proofs.is_bad_reason.Goals.{Else-done-r, Else-not-listed, Else-r-eq0, Else-r-gt1}
 
 -- where the box is listed
 listed_of : (c : Else-not-listed) → c.args.listed ≡ true
-listed_of c = not_false c.args.listed c.if-not-listed.false
+listed_of c = c.if-not-listed.false
 
 -- where the iteration is not 0, where it is done, and where the confidence is at most 1; each from the one behind
 abbrev one_of : Else-r-eq0 → Else-not-listed
@@ -25,10 +24,11 @@ two_of c = (goal.at.Else-done-r c).Else-r-eq0
 pub returns-then-not-listed : goal.returns-then-not-listed
 returns-then-not-listed c =
     let a = c.args in
-    sym (not_both (bad_reason a.t a.done true a.r) (not_true a.listed c.if-not-listed.true))
+    sym (not_both (bad_reason a.t a.done true a.r) c.if-not-listed.true)
 
 pub returns-then-r-eq0 : goal.returns-then-r-eq0
-returns-then-r-eq0 c = sym (both (listed_of (goal.at.returns-then-r-eq0 c).Else-not-listed) (bad_unsaid _ _ _ c.if-r-eq0.true))
+returns-then-r-eq0 c =
+    sym (both (listed_of (goal.at.returns-then-r-eq0 c).Else-not-listed) (bad_unsaid _ _ _ c.if-r-eq0.true))
 
 pub returns-then-done-r : goal.returns-then-done-r
 returns-then-done-r c =

@@ -3,7 +3,6 @@ use mathlib.Core.Path.{◌≡◌, refl, sym, ◌∙◌}
 use mathlib.Core.Bool.{false}
 use Rattle.counting.specs.Count.{any}
 use Rattle.run.specs.State.{bad_place, too_many_sent, bad_state}
-use borrow.Author.Rules.{rules}
 use Rattle.run.proofs.is_bad_state.Goals as goal
 use Rattle.run.proofs.is_bad_state.Goals.{Else-has_bad_place, Else-has_too_many_sent}
 
@@ -31,4 +30,6 @@ has_bad_reason-requires c =
 
 pub returns : goal.returns
 unfolding bad_state
-returns c = c.has_bad_reason.ensures ∙ rw (good (goal.at.returns c).Else-has_bad_place, few (goal.at.returns c).Else-has_too_many_sent) refl
+returns c =
+    c.has_bad_reason.ensures
+    ∙ rw (good (goal.at.returns c).Else-has_bad_place, few (goal.at.returns c).Else-has_too_many_sent) refl

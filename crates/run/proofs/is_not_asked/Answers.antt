@@ -8,7 +8,6 @@ use Rattle.counting.specs.Sets.{member}
 use Rattle.counting.proofs.Bools.{or_true_left}
 use Rattle.run.specs.Why.{no_box}
 use Rattle.run.proofs.Accepted.{is_number}
-use borrow.Author.Rules.{rules}
 use Rattle.run.proofs.is_not_asked.Goals as goal
 use Rattle.run.proofs.is_not_asked.Goals.{Else-is_no_box}
 
@@ -25,4 +24,5 @@ overflow_sub-asked c = omega (arith, (is_number (a_box c)).0)
 pub returns : goal.returns
 returns c =
     let a = c.args in
-    c.is_member.ensures ∙ ap (λ (b : Bool). b || member a.faulty (a.asked - 1)) (sym (a_box (goal.at.returns c).Else-is_no_box))
+    c.is_member.ensures
+    ∙ ap (λ (b : Bool). b || member a.faulty (a.asked - 1)) (sym (a_box (goal.at.returns c).Else-is_no_box))

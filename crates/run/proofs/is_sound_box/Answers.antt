@@ -3,7 +3,6 @@ use mathlib.Core.Path.{refl, ap}
 use mathlib.Core.Bool.{not}
 use borrow.Author.Tests.{lt-ltb, le-ltb}
 use Rattle.sizes.specs.Sizes.{sound}
-use borrow.Author.Rules.{rules}
 use Rattle.run.proofs.is_sound_box.Goals as goal
 
 pub returns-then-n-k : goal.returns-then-n-k

@@ -9,7 +9,6 @@ use Rattle.sizes.proofs.Laws.{by_n_inside}
 use Rattle.run.specs.declared.Run.{Run}
 use Rattle.run.specs.Inside.{first_refusal, late_refusal}
 use Rattle.run.proofs.Refusals.{Begun, first_passes, iterate_fails, iterate_goes_on}
-use borrow.Author.Rules.{rules}
 use Rattle.run.proofs.iterate_refusal.Goals as goal
 use Rattle.run.proofs.iterate_refusal.Goals.{After-table_rows, Else-refusal-ne0}
 
@@ -32,7 +31,8 @@ table_of : (c : After-table_rows) → c.table_rows.result ≡ table_rows (state_
 table_of c = c.table_rows.ensures ∙ by_n_inside table_rows _ (held (passed_of c)).allowed.pass4
 
 pub returns-then-refusal-ne0 : goal.returns-then-refusal-ne0
-returns-then-refusal-ne0 c = let e = c.first_refusal-refusal.ensures in e ∙ iterate_fails _ _ (λ z. c.if-refusal-ne0.true (e ∙ z))
+returns-then-refusal-ne0 c =
+    let e = c.first_refusal-refusal.ensures in e ∙ iterate_fails _ _ (λ z. c.if-refusal-ne0.true (e ∙ z))
 
 pub returns-then-table-table_rows : goal.returns-then-table-table_rows
 returns-then-table-table_rows c =
@@ -41,7 +41,8 @@ returns-then-table-table_rows c =
     sym (iterate_goes_on _ _ (passes (passed_of l)) ∙ refused 11 _ other)
 
 pub late_refusal-requires : goal.late_refusal-requires
-late_refusal-requires c = let p = (held (passed_of (goal.at.late_refusal-requires c).After-table_rows)).allowed in (p.low, p.high)
+late_refusal-requires c =
+    let p = (held (passed_of (goal.at.late_refusal-requires c).After-table_rows)).allowed in (p.low, p.high)
 
 pub returns : goal.returns
 unfolding late_refusal

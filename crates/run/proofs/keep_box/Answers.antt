@@ -3,15 +3,24 @@
 -- of n falls. Assumes nothing.
 use mathlib.Core.Path.{◌≡◌, sym, ap, ◌∙◌}
 use mathlib.Core.Bool.{Bool, cond}
-use Prim.Native.Nat.{ℕ, ◌+◌, ◌-◌, ◌*◌, ◌≤◌, ◌<◌}
+use Prim.Native.Nat.{ℕ, ◌+◌, ◌*◌, ◌<◌}
 use native.Mathlib.Omega.{arith}
 use lib.ListN.{length}
 use Rattle.gradecast.proofs.Cells.{part_fits, place_fits}
 use Rattle.run.specs.Inside.{cell_of, joins_in}
-use Rattle.run.proofs.Keep.{SoFar, so_far_begins, so_far_turn, so_far_ends, box_stays}
+use Rattle.run.proofs.Keep.{so_far_begins, so_far_turn, so_far_ends, box_stays}
 use borrow.Author.Rules.{rules}
 use Rattle.run.proofs.keep_box.Goals as goal
-use Rattle.run.proofs.keep_box.Goals.{After-joins_now-joins, After-kept_now, After-kept_now-in-loop-k, After-kept_now-in-loop-k-2, After-slice_known-3-1, Else-old-j, In-loop-k, Start}
+use Rattle.run.proofs.keep_box.Goals.{
+  After-joins_now-joins,
+  After-kept_now,
+  After-kept_now-in-loop-k,
+  After-kept_now-in-loop-k-2,
+  After-slice_known-3-1,
+  Else-old-j,
+  In-loop-k,
+  Start,
+}
 
 -- where the arguments are known
 abbrev start_of : After-slice_known-3-1 → Start
@@ -58,7 +67,9 @@ backed_long : (c : In-loop-k) → length c.loop-k.backed ≡ 169
 backed_long c = c.loop-k.invariant.3.0 ∙ (box_of c).requires.iterations_len.2
 
 -- the box joins where its confidence says so
-joins_is : (c : After-joins_now-joins) → let turn = turn_of c in c.joins_now-joins.result ≡ joins_in (box_of turn).args.j (box_of turn).args.i turn.loop-k.k
+joins_is : (c : After-joins_now-joins) →
+    let turn = turn_of c in
+    c.joins_now-joins.result ≡ joins_in (box_of turn).args.j (box_of turn).args.i turn.loop-k.k
 unfolding cell_of
 joins_is c =
     let turn = turn_of c in
@@ -68,7 +79,9 @@ joins_is c =
     turn.if-old-j.false)
 
 -- what a place of a part gets
-gets : (c : After-joins_now-joins) (found kept : ℕ) {v : ℕ} → v ≡ cond c.joins_now-joins.result found kept → let turn = turn_of c in v ≡ cond (joins_in (box_of turn).args.j (box_of turn).args.i turn.loop-k.k) found kept
+gets : (c : After-joins_now-joins) (found kept : ℕ) {v : ℕ} → v ≡ cond c.joins_now-joins.result found kept →
+    let turn = turn_of c in
+    v ≡ cond (joins_in (box_of turn).args.j (box_of turn).args.i turn.loop-k.k) found kept
 gets c found kept e = e ∙ ap (λ (b : Bool). cond b found kept) (joins_is c)
 
 pub offset_bounds-j-i : goal.offset_bounds-j-i
@@ -87,7 +100,11 @@ pub returns-then-old-j : goal.returns-then-old-j
 returns-then-old-j c =
     let s = start_of (goal.at.returns-then-old-j c).After-slice_known-3-1 in
     let same = c.if-old-j.true in
-    record { box_kept = box_stays _ _ _ (few s) same; box_kept_2 = box_stays _ _ _ (few s) same; box_kept_3 = box_stays _ _ _ (few s) same }
+    record {
+      box_kept = box_stays _ _ _ (few s) same;
+      box_kept_2 = box_stays _ _ _ (few s) same;
+      box_kept_3 = box_stays _ _ _ (few s) same;
+    }
 
 pub overflow_mul-first : goal.overflow_mul-first
 overflow_mul-first c =
@@ -176,4 +193,8 @@ returns c =
     let high = s.requires.keeping.0.high in
     let none = s.requires.keeping.0.within s.args.i in
     let at_end : c.loop-k.k ≡ s.args.j.n = omega arith in
-    record { box_kept = so_far_ends _ _ _ (few s) at_end high none inv.1; box_kept_2 = so_far_ends _ _ _ (few s) at_end high none inv.2; box_kept_3 = so_far_ends _ _ _ (few s) at_end high none inv.3 }
+    record {
+      box_kept = so_far_ends _ _ _ (few s) at_end high none inv.1;
+      box_kept_2 = so_far_ends _ _ _ (few s) at_end high none inv.2;
+      box_kept_3 = so_far_ends _ _ _ (few s) at_end high none inv.3;
+    }

@@ -1,15 +1,9 @@
 -- `run::keep_box` meets its contract: a list that has not changed is joined by nobody. Otherwise the places of box i
 -- are looked at one by one, and after k turns the first k hold what they should; behind n nobody joins. What is left
 -- of n falls. Assumes nothing.
-use mathlib.Core.Path.{◌≡◌, sym, ap, ◌∙◌}
-use mathlib.Core.Bool.{Bool, cond}
-use Prim.Native.Nat.{ℕ, ◌+◌, ◌-◌, ◌*◌, ◌≤◌, ◌<◌}
-use native.Mathlib.Omega.{arith}
-use lib.ListN.{length}
-use Rattle.gradecast.proofs.Cells.{part_fits, place_fits}
-use Rattle.run.specs.Inside.{cell_of, joins_in}
-use Rattle.run.proofs.Keep.{SoFar, so_far_begins, so_far_turn, so_far_ends, box_stays}
-use borrow.Author.Rules.{rules}
+use Prim.Native.Nat.{◌-◌, ◌≤◌}
+use Rattle.run.specs.Inside.{cell_of}
+use Rattle.run.proofs.Keep.{SoFar}
 use Rattle.run.proofs.keep_box.Given as goal
 
 abbrev pub invariant-loop-k : goal.invariant-loop-k

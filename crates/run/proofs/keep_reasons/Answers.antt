@@ -1,10 +1,8 @@
 -- `run::keep_reasons` meets its contract: after i turns the places of the first i boxes hold what they should, and the
 -- lists of the boxes behind n are joined by nobody. What is left of n falls. Assumes nothing.
-use mathlib.Core.Path.{◌≡◌, sym, ◌∙◌}
-use Prim.Native.Nat.{◌-◌, ◌≤◌}
+use mathlib.Core.Path.{◌≡◌}
 use native.Mathlib.Omega.{arith}
-use Rattle.run.specs.Inside.{cell_of}
-use Rattle.run.proofs.Keep.{Boxes, boxes_begin, boxes_turn, boxes_end}
+use Rattle.run.proofs.Keep.{boxes_begin, boxes_turn, boxes_end}
 use borrow.Author.Rules.{rules}
 use Rattle.run.proofs.keep_reasons.Goals as goal
 use Rattle.run.proofs.keep_reasons.Goals.{After-keep_box, After-loop-i, After-struct_known-1, In-loop-i, Start}
@@ -34,7 +32,10 @@ pub keep_box-requires : goal.keep_box-requires
 keep_box-requires c =
     let turn = (goal.at.keep_box-requires c).In-loop-i in
     let inv = turn.loop-i.invariant in
-    record { keeping = ((box_of turn).requires.keeping, turn.loop-i-test.true); iterations_len = (inv.1.0, inv.2.0, inv.3.0) }
+    record {
+      keeping = ((box_of turn).requires.keeping, turn.loop-i-test.true);
+      iterations_len = (inv.1.0, inv.2.0, inv.3.0);
+    }
 
 pub loop-i-preserved : goal.loop-i-preserved
 loop-i-preserved c =
@@ -56,4 +57,8 @@ returns c =
     let none = s.requires.keeping.beyond in
     let high = s.requires.keeping.high in
     let at_end : c.loop-i.i ≡ s.args.j.n = omega arith in
-    record { iterations_after = boxes_end _ _ s.args.iterations.now s.requires.iterations_len.0 at_end high none inv.1; sure_after = boxes_end _ _ s.args.sure.now s.requires.iterations_len.1 at_end high none inv.2; backed_after = boxes_end _ _ s.args.backed.now s.requires.iterations_len.2 at_end high none inv.3 }
+    record {
+      iterations_after = boxes_end _ _ s.args.iterations.now s.requires.iterations_len.0 at_end high none inv.1;
+      sure_after = boxes_end _ _ s.args.sure.now s.requires.iterations_len.1 at_end high none inv.2;
+      backed_after = boxes_end _ _ s.args.backed.now s.requires.iterations_len.2 at_end high none inv.3;
+    }

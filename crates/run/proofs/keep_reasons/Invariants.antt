@@ -1,11 +1,8 @@
 -- `run::keep_reasons` meets its contract: after i turns the places of the first i boxes hold what they should, and the
 -- lists of the boxes behind n are joined by nobody. What is left of n falls. Assumes nothing.
-use mathlib.Core.Path.{◌≡◌, sym, ◌∙◌}
 use Prim.Native.Nat.{◌-◌, ◌≤◌}
-use native.Mathlib.Omega.{arith}
 use Rattle.run.specs.Inside.{cell_of}
-use Rattle.run.proofs.Keep.{Boxes, boxes_begin, boxes_turn, boxes_end}
-use borrow.Author.Rules.{rules}
+use Rattle.run.proofs.Keep.{Boxes}
 use Rattle.run.proofs.keep_reasons.Given as goal
 
 abbrev pub invariant-loop-i : goal.invariant-loop-i

@@ -1,11 +1,8 @@
 -- `run::kept_in` meets its contract: after p turns those of the first p places are counted. What is left of 169 falls.
 -- Assumes nothing.
-use Prim.Native.Nat.{◌-◌}
 use native.Mathlib.Omega.{arith}
-use Rattle.counting.proofs.Loops.{Counted, count_begins, counts, counts_few, count_ends}
+use Rattle.counting.proofs.Loops.{count_begins, counts, counts_few, count_ends}
 use Rattle.run.specs.Iteration.{reason_from, reason_in}
-use Rattle.run.specs.State.{kept}
-use borrow.Author.Rules.{rules}
 use Rattle.run.proofs.kept_in.Goals as goal
 use Rattle.run.proofs.kept_in.Goals.{After-one_if_kept-found, In-loop-p}
 

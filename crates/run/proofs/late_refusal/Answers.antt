@@ -6,7 +6,6 @@ use lib.Dec.{ltb}
 use borrow.Author.Tests.{lt-ltb, le-ltb}
 use Rattle.counting.proofs.Refuse.{refused, passed, none_left}
 use Rattle.run.specs.Inside.{late_refusal}
-use borrow.Author.Rules.{rules}
 use Rattle.run.proofs.late_refusal.Goals as goal
 use Rattle.run.proofs.late_refusal.Goals.{Else-s}
 

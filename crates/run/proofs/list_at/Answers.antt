@@ -2,7 +2,6 @@
 -- Assumes nothing.
 use mathlib.Core.Path.{sym, ◌∙◌}
 use Rattle.run.proofs.Entries.{is_box, entry_box, entry_none}
-use borrow.Author.Rules.{rules}
 use Rattle.run.proofs.list_at.Goals as goal
 
 pub new_list-requires : goal.new_list-requires

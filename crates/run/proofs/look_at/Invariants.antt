@@ -1,33 +1,13 @@
 -- `run::look_at` meets its contract: an empty list has nobody on it. Otherwise a turn ends the search at a listed box
 -- with a bad reason; after k turns none of the first k is one, and those of them that are listed are counted. Behind
 -- n nobody is listed. What is left of n falls. Assumes nothing.
-use mathlib.Core.Path.{◌≡◌, sym, ap, ◌∙◌}
-use mathlib.Core.Bool.{Bool, true, false, cond, ◌&&◌, true≢false}
 use mathlib.Core.List.{List}
-use Prim.Native.Nat.{ℕ, ◌+◌, ◌-◌, ◌*◌, ◌≤◌, ◌<◌}
-use native.Mathlib.Omega.{arith}
+use Prim.Native.Nat.{ℕ, ◌+◌, ◌-◌, ◌*◌}
 use Rattle.counting.specs.Sets.{member}
-use Rattle.counting.proofs.Bools.{not_both}
-use Rattle.counting.proofs.Count.{count_none, none_any, count_wide, any_wide}
-use Rattle.counting.proofs.Loops.{
-  NoneYet,
-  search_begins,
-  search_turn,
-  search_hits,
-  search_ends,
-  Counted,
-  count_begins,
-  counts,
-  counts_few,
-  count_ends,
-}
-use Rattle.counting.proofs.Sets.{member_above, member_empty}
-use Rattle.sizes.proofs.Laws.{within_lt}
+use Rattle.counting.proofs.Loops.{NoneYet, Counted}
 use Rattle.run.specs.declared.Reason.{Reason}
 use Rattle.run.specs.Inside.{bad_listing}
 use Rattle.run.specs.Iteration.{reason_from}
-use Rattle.run.specs.State.{bad_reason}
-use borrow.Author.Rules.{rules}
 use Rattle.run.proofs.look_at.Given as goal
 
 -- the reason of the kth box

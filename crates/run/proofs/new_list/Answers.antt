@@ -1,13 +1,11 @@
 -- `run::new_list` meets its contract: after k turns the list is the set of the leaders below k that join, and the bit
 -- is that of leader k. What is left of n falls. Assumes nothing.
 use mathlib.Core.Path.{◌≡◌, refl, ap, ◌∙◌}
-use mathlib.Core.Bool.{Bool, cond, ◌||◌}
-use Prim.Native.Nat.{ℕ, ◌+◌, ◌*◌, ◌^◌, ◌≤◌, ◌-◌}
+use mathlib.Core.Bool.{Bool, cond}
+use Prim.Native.Nat.{ℕ, ◌+◌, ◌*◌, ◌^◌, ◌≤◌}
 use native.Mathlib.Omega.{arith}
-use lib.Dec.{ltb}
-use lib.ListN.{get_or}
 use Rattle.counting.specs.Count.{sum}
-use Rattle.counting.specs.Sets.{member, set_of}
+use Rattle.counting.specs.Sets.{set_of}
 use Rattle.counting.proofs.Sets.{set_of_turn, set_of_turn_lt, set_of_whole, bit_turn, bits_le}
 use Rattle.run.specs.Inside.{cell_of, list_from}
 use Rattle.gradecast.proofs.Cells.{part_fits}
@@ -45,7 +43,8 @@ pub overflow_add-from : goal.overflow_add-from
 overflow_add-from c = omega (arith, fits (start_of c))
 
 pub bounds-confidences-from : goal.bounds-confidences-from
-bounds-confidences-from c = let s = start_of (goal.at.bounds-confidences-from c).In-loop-k in omega (arith, fits s, s.requires.0)
+bounds-confidences-from c =
+    let s = start_of (goal.at.bounds-confidences-from c).In-loop-k in omega (arith, fits s, s.requires.0)
 
 pub joins-requires : goal.joins-requires
 joins-requires c = omega (arith, (start_of (goal.at.joins-requires c).In-loop-k).requires.1)

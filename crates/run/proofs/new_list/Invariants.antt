@@ -1,22 +1,18 @@
 -- `run::new_list` meets its contract: after k turns the list is the set of the leaders below k that join, and the bit
 -- is that of leader k. What is left of n falls. Assumes nothing.
-use mathlib.Core.Path.{◌≡◌, refl, ap, ◌∙◌}
-use mathlib.Core.Bool.{Bool, cond, ◌||◌}
-use Prim.Native.Nat.{ℕ, ◌+◌, ◌*◌, ◌^◌, ◌≤◌, ◌-◌}
-use native.Mathlib.Omega.{arith}
+use mathlib.Core.Path.{◌≡◌}
+use mathlib.Core.Bool.{◌||◌}
+use Prim.Native.Nat.{◌+◌, ◌^◌, ◌≤◌, ◌-◌}
 use lib.Dec.{ltb}
 use lib.ListN.{get_or}
-use Rattle.counting.specs.Count.{sum}
 use Rattle.counting.specs.Sets.{member, set_of}
-use Rattle.counting.proofs.Sets.{set_of_turn, set_of_turn_lt, set_of_whole, bit_turn, bits_le}
-use Rattle.run.specs.Inside.{cell_of, list_from}
-use Rattle.gradecast.proofs.Cells.{part_fits}
-use borrow.Author.Rules.{rules}
 use Rattle.run.proofs.new_list.Given as goal
 
 abbrev pub invariant-loop-k : goal.invariant-loop-k
 invariant-loop-k l =
-    (l.k ≤ l.n) × (l.bit ≡ 2 ^ l.k) × (l.list ≡ set_of l.k (λ j. member l.old j || ltb (get_or l.confidences (l.from + j) 0) 2))
+    (l.k ≤ l.n) ×
+    (l.bit ≡ 2 ^ l.k) ×
+    (l.list ≡ set_of l.k (λ j. member l.old j || ltb (get_or l.confidences (l.from + j) 0) 2))
 
 abbrev pub decreases-loop-k : goal.decreases-loop-k
 decreases-loop-k l = l.n - l.k

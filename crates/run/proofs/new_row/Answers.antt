@@ -9,7 +9,6 @@ use Rattle.tally.specs.declared.Chosen.{Chosen}
 use Rattle.tally.specs.Reply.{choice_reply}
 use Rattle.gradecast.proofs.Cells.{part_fits}
 use Rattle.run.specs.Inside.{row_from}
-use borrow.Author.Rules.{rules}
 use Rattle.run.proofs.new_row.Goals as goal
 use Rattle.run.proofs.new_row.Goals.{After-choose-chosen, Start}
 
@@ -21,7 +20,11 @@ fits s = part_fits s.requires.0.high s.requires.1
 abbrev start_of : After-choose-chosen → Start
 start_of c = (goal.at.After-choose-chosen c).Start
 
-chosen : (c : After-choose-chosen) → let a = (start_of c).args in let from = a.i * a.n in c.choose-chosen.result.row ≡ (choice_reply (take a.n (drop from a.rows.now)) (take a.n (drop from a.confidences.now))).row
+chosen : (c : After-choose-chosen) →
+    let a = (start_of c).args in
+    let from = a.i * a.n in
+    c.choose-chosen.result.row
+    ≡ (choice_reply (take a.n (drop from a.rows.now)) (take a.n (drop from a.confidences.now))).row
 chosen c =
     let a = (start_of c).args in
     let from = a.i * a.n in
@@ -40,10 +43,12 @@ pub offset_bounds-rows-from : goal.offset_bounds-rows-from
 offset_bounds-rows-from c = omega (arith, fits (goal.at.offset_bounds-rows-from c).Start)
 
 pub slice_bounds-choose-end : goal.slice_bounds-choose-end
-slice_bounds-choose-end c = let s = (goal.at.slice_bounds-choose-end c).Start in omega (arith, fits s, s.requires.0.all_rows)
+slice_bounds-choose-end c =
+    let s = (goal.at.slice_bounds-choose-end c).Start in omega (arith, fits s, s.requires.0.all_rows)
 
 pub slice_bounds-choose-end-2 : goal.slice_bounds-choose-end-2
-slice_bounds-choose-end-2 c = let s = (goal.at.slice_bounds-choose-end-2 c).Start in omega (arith, fits s, s.requires.0.all_confidences)
+slice_bounds-choose-end-2 c =
+    let s = (goal.at.slice_bounds-choose-end-2 c).Start in omega (arith, fits s, s.requires.0.all_confidences)
 
 pub returns-then-chosen-eq0 : goal.returns-then-chosen-eq0
 unfolding row_from
@@ -54,4 +59,6 @@ returns-then-chosen-eq0 c =
 
 pub returns : goal.returns
 unfolding row_from
-returns c = let f = (goal.at.returns c).After-choose-chosen in rw (← chosen f, ne_eqb f.choose-chosen.result.row 0 c.if-chosen-eq0.false) refl
+returns c =
+    let f = (goal.at.returns c).After-choose-chosen in
+    rw (← chosen f, ne_eqb f.choose-chosen.result.row 0 c.if-chosen-eq0.false) refl

@@ -3,7 +3,6 @@
 use mathlib.Core.Path.{◌≡◌, sym, ◌∙◌}
 use lib.ListN.{replicate}
 use Rattle.run.specs.State.{zeros}
-use borrow.Author.Rules.{rules}
 use Rattle.run.proofs.no_run.Reads as Reads
 use Rattle.run.proofs.no_run.Goals as goal
 

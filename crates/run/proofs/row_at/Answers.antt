@@ -1,7 +1,6 @@
 -- `run::row_at` meets its contract: a sound box's place holds its new row, and any other place 0. Assumes nothing.
 use mathlib.Core.Path.{sym, ◌∙◌}
 use Rattle.run.proofs.Entries.{is_box, entry_box, entry_none}
-use borrow.Author.Rules.{rules}
 use Rattle.run.proofs.row_at.Goals as goal
 
 pub new_row-requires : goal.new_row-requires

@@ -5,7 +5,6 @@ use Rattle.counting.proofs.Refuse.{refused, passed, none_left}
 use Rattle.sizes.specs.Sizes.{size_refusal}
 use Rattle.sizes.proofs.Laws.{size_given, size_passed}
 use Rattle.run.specs.Inside.{setting_refusal}
-use borrow.Author.Rules.{rules}
 use Rattle.run.proofs.setting_refusal.Goals as goal
 use Rattle.run.proofs.setting_refusal.Goals.{Else-refusal-ne0}
 
@@ -15,7 +14,8 @@ passes c = sym c.size_refusal-refusal.ensures ∙ c.if-refusal-ne0.false
 
 pub returns-then-refusal-ne0 : goal.returns-then-refusal-ne0
 unfolding setting_refusal
-returns-then-refusal-ne0 c = let e = c.size_refusal-refusal.ensures in e ∙ sym (size_given _ _ _ (λ z. c.if-refusal-ne0.true (e ∙ z)))
+returns-then-refusal-ne0 c =
+    let e = c.size_refusal-refusal.ensures in e ∙ sym (size_given _ _ _ (λ z. c.if-refusal-ne0.true (e ∙ z)))
 
 pub returns-then-is_stray : goal.returns-then-is_stray
 unfolding setting_refusal

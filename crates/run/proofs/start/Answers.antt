@@ -5,7 +5,6 @@ use lib.ListN.{replicate}
 use Rattle.run.specs.State.{start_run}
 use Rattle.run.proofs.Accepted.{is_start_accepted}
 use Rattle.run.proofs.Refusals.{start_refused, start_taken}
-use borrow.Author.Rules.{rules}
 use Rattle.run.proofs.start.Reads as Reads
 use Rattle.run.proofs.start.Goals as goal
 use Rattle.run.proofs.start.Goals.{Else-refusal-ne0}
@@ -19,7 +18,8 @@ returns-then-refusal-ne0 c =
     start_refused _ _ _ _ _ _ c.start_refusal-refusal.ensures c.if-refusal-ne0.true c.no_run.ensures
 
 pub start_rows-held-requires : goal.start_rows-held-requires
-start_rows-held-requires c = (is_start_accepted _ _ _ _ (sym c.start_refusal-refusal.ensures ∙ c.if-refusal-ne0.false)).pass11
+start_rows-held-requires c =
+    (is_start_accepted _ _ _ _ (sym c.start_refusal-refusal.ensures ∙ c.if-refusal-ne0.false)).pass11
 
 pub returns : goal.returns
 unfolding start_run

@@ -8,7 +8,6 @@ use Rattle.counting.proofs.Bools.{not_of_true, not_of_false}
 use Rattle.counting.proofs.Refuse.{refused, passed, none_left}
 use Rattle.run.proofs.Refusals.{setting_passes, start_fails, start_goes_on}
 use Rattle.run.specs.Inside.{setting_refusal}
-use borrow.Author.Rules.{rules}
 use Rattle.run.proofs.start_refusal.Goals as goal
 use Rattle.run.proofs.start_refusal.Goals.{Else-refusal-ne0, Else-rows-n, Start}
 
@@ -20,15 +19,18 @@ passes : (c : Else-refusal-ne0) → setting_refusal (start_of c).args.n (start_o
 passes c = sym c.setting_refusal-refusal.ensures ∙ c.if-refusal-ne0.false
 
 pub returns-then-refusal-ne0 : goal.returns-then-refusal-ne0
-returns-then-refusal-ne0 c = let e = c.setting_refusal-refusal.ensures in e ∙ start_fails _ _ _ _ (λ z. c.if-refusal-ne0.true (e ∙ z))
+returns-then-refusal-ne0 c =
+    let e = c.setting_refusal-refusal.ensures in e ∙ start_fails _ _ _ _ (λ z. c.if-refusal-ne0.true (e ∙ z))
 
 pub returns-then-rows-n : goal.returns-then-rows-n
 returns-then-rows-n c =
     sym
-    (start_goes_on _ _ _ _ (passes (goal.at.returns-then-rows-n c).Else-refusal-ne0) ∙ refused 11 _ (not_of_false (ne_eqb _ _ c.if-rows-n.true)))
+    (start_goes_on _ _ _ _ (passes (goal.at.returns-then-rows-n c).Else-refusal-ne0)
+    ∙ refused 11 _ (not_of_false (ne_eqb _ _ c.if-rows-n.true)))
 
 pub has_sound_zero-requires : goal.has_sound_zero-requires
-has_sound_zero-requires c = omega (arith, (setting_passes _ _ _ (passes (goal.at.has_sound_zero-requires c).Else-refusal-ne0)).high)
+has_sound_zero-requires c =
+    omega (arith, (setting_passes _ _ _ (passes (goal.at.has_sound_zero-requires c).Else-refusal-ne0)).high)
 
 pub returns-then-has_sound_zero : goal.returns-then-has_sound_zero
 returns-then-has_sound_zero c =

@@ -3,7 +3,6 @@ use mathlib.Core.Path.{sym, ◌∙◌}
 use native.Mathlib.Omega.{arith}
 use Rattle.run.specs.State.{start_row}
 use Rattle.run.proofs.Entries.{is_box, entry_box, entry_none}
-use borrow.Author.Rules.{rules}
 use Rattle.run.proofs.start_row.Goals as goal
 use Rattle.run.proofs.start_row.Goals.{After-is_sound_box, Start}
 

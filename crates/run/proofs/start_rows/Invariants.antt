@@ -1,13 +1,9 @@
 -- `run::start_rows` meets its contract: after k turns the first k rows are filled. What is left of 13 falls. Assumes
 -- nothing.
-use mathlib.Core.Path.{refl}
 use Prim.Native.Nat.{◌-◌}
-use native.Mathlib.Nat.{le_refl}
-use native.Mathlib.Omega.{arith}
 use lib.ListN.{replicate}
-use Rattle.counting.proofs.Loops.{Filled, fill_begins, fill_turn, fill_ends}
+use Rattle.counting.proofs.Loops.{Filled}
 use Rattle.run.specs.State.{start_row}
-use borrow.Author.Rules.{rules}
 use Rattle.run.proofs.start_rows.Given as goal
 
 abbrev pub invariant-loop-k : goal.invariant-loop-k

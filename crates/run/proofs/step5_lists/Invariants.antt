@@ -1,14 +1,11 @@
 -- `run::step5_lists` meets its contract: after i turns the first i lists are filled, and those above n are empty.
 -- What is left of n falls. Assumes nothing.
 use mathlib.Core.List.{List}
-use Prim.Native.Nat.{ℕ, ◌-◌, ◌<◌}
-use native.Mathlib.Omega.{arith}
+use Prim.Native.Nat.{ℕ, ◌-◌}
 use lib.ListN.{get_or, replicate}
-use Rattle.counting.proofs.Loops.{Filled, fill_begins, fill_turn}
+use Rattle.counting.proofs.Loops.{Filled}
 use Rattle.run.specs.Inside.{list_from}
 use Rattle.run.specs.Iteration.{entry}
-use Rattle.run.proofs.Entries.{entry_above, places_filled}
-use borrow.Author.Rules.{rules}
 use Rattle.run.proofs.step5_lists.Given as goal
 
 -- the list of place i

@@ -1,15 +1,10 @@
 -- `run::step5_rows` meets its contract: after i turns the first i rows are filled, and those above n are 0. What is
 -- left of n falls. Assumes nothing.
-use mathlib.Core.List.{List}
-use Prim.Native.Nat.{ℕ, ◌-◌, ◌<◌}
+use Prim.Native.Nat.{◌<◌}
 use native.Mathlib.Omega.{arith}
-use lib.ListN.{get_or, replicate}
-use Rattle.counting.proofs.Loops.{Filled, fill_begins, fill_turn}
-use Rattle.run.specs.Inside.{row_from}
-use Rattle.run.specs.Iteration.{entry}
+use lib.ListN.{replicate}
+use Rattle.counting.proofs.Loops.{fill_begins, fill_turn}
 use Rattle.run.proofs.Entries.{entry_above, places_filled}
-use borrow.Author.Rules.{rules}
-use Rattle.run.proofs.step5_rows.Invariants.{row}
 use Rattle.run.proofs.step5_rows.Goals as goal
 use Rattle.run.proofs.step5_rows.Goals.{In-loop-i, Start}
 

@@ -1,14 +1,11 @@
 -- `run::step5_rows` meets its contract: after i turns the first i rows are filled, and those above n are 0. What is
 -- left of n falls. Assumes nothing.
 use mathlib.Core.List.{List}
-use Prim.Native.Nat.{ℕ, ◌-◌, ◌<◌}
-use native.Mathlib.Omega.{arith}
+use Prim.Native.Nat.{ℕ, ◌-◌}
 use lib.ListN.{get_or, replicate}
-use Rattle.counting.proofs.Loops.{Filled, fill_begins, fill_turn}
+use Rattle.counting.proofs.Loops.{Filled}
 use Rattle.run.specs.Inside.{row_from}
 use Rattle.run.specs.Iteration.{entry}
-use Rattle.run.proofs.Entries.{entry_above, places_filled}
-use borrow.Author.Rules.{rules}
 use Rattle.run.proofs.step5_rows.Given as goal
 
 -- the row of place i

@@ -3,7 +3,6 @@
 use mathlib.Core.Path.{◌≡◌, sym, ◌∙◌}
 use Rattle.run.specs.Inside.{first_refusal}
 use Rattle.run.proofs.Refusals.{first_passes, why_fails, why_goes_on}
-use borrow.Author.Rules.{rules}
 use Rattle.run.proofs.why_refusal.Goals as goal
 use Rattle.run.proofs.why_refusal.Goals.{Else-refusal-ne0}
 
@@ -12,7 +11,8 @@ passes : (c : Else-refusal-ne0) → first_refusal c.args.s ≡ 0
 passes c = sym c.first_refusal-refusal.ensures ∙ c.if-refusal-ne0.false
 
 pub returns-then-refusal-ne0 : goal.returns-then-refusal-ne0
-returns-then-refusal-ne0 c = let e = c.first_refusal-refusal.ensures in e ∙ why_fails _ _ _ (λ z. c.if-refusal-ne0.true (e ∙ z))
+returns-then-refusal-ne0 c =
+    let e = c.first_refusal-refusal.ensures in e ∙ why_fails _ _ _ (λ z. c.if-refusal-ne0.true (e ∙ z))
 
 pub asking_refusal-requires : goal.asking_refusal-requires
 asking_refusal-requires c = let p = (first_passes _ (passes c)).allowed in (p.low, p.high, p.few)

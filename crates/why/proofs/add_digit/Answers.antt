@@ -3,7 +3,6 @@
 use mathlib.Core.Path.{sym}
 use native.Mathlib.Omega.{arith}
 use Rattle.why.proofs.Numbers.{digit_low, capped_small, capped_large}
-use borrow.Author.Rules.{rules}
 use Rattle.why.proofs.add_digit.Goals as goal
 
 pub overflow_sub-longer : goal.overflow_sub-longer

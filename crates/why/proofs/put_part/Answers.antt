@@ -9,35 +9,35 @@ use Rattle.lines.specs.Line.{line_of}
 use Rattle.listing.specs.Inside.{Put}
 use Rattle.listing.proofs.Text.{put_line}
 use Rattle.why.proofs.Reasons.{part_most, part_some}
-use borrow.Author.Rules.{rules}
 use Rattle.why.proofs.put_part.Goals as goal
-use Rattle.why.proofs.put_part.Goals.{After-put_line, Start}
-
-abbrev start_of : After-put_line → Start
-start_of p = (goal.at.After-put_line p).Start
+use Rattle.why.proofs.put_part.Goals.{After-put_line}
 
 -- where the line has been put
-put_of : (p : After-put_line) → Put (start_of p).args.text.now p.put_line.new.text (start_of p).args.at p.put_line.result (line_of (start_of p).args.words.now ((start_of p).args.number ∷ [])) × (p.put_line.result ≤ (start_of p).args.at + (length (start_of p).args.words.now + 5))
+put_of : (p : After-put_line) →
+    Put p.args.text.now p.put_line.new.text p.args.at p.put_line.result (line_of p.args.words.now (p.args.number ∷ []))
+    × (p.put_line.result ≤ p.args.at + (length p.args.words.now + 5))
 put_of p =
-    let s = start_of p in
-    let a = s.args in
+    let a = p.args in
     put_line a.words.now (a.number ∷ []) a.text.now p.put_line.new.text a.at p.put_line.result
     (length a.words.now + 5)
-    (part_most a.words.now a.number s.fits.number.fits)
-    s.requires p.put_line.ensures.value p.put_line.ensures.text_after
+    (part_most a.words.now a.number p.ranges.number.fits)
+    p.requires p.put_line.ensures.value p.put_line.ensures.text_after
 
 pub overflow_sub-result : goal.overflow_sub-result
 overflow_sub-result c =
     let p = (goal.at.overflow_sub-result c).After-put_line in
-    let a = (start_of p).args in
-    omega (arith, (put_of p).0.ends, part_some a.words.now a.number)
+    omega (arith, (put_of p).0.ends, part_some c.args.words.now c.args.number)
 
 pub returns : goal.returns
 returns c =
-    let p = (goal.at.returns c).After-put_line in
-    let a = (start_of p).args in
-    let put = put_of p in
+    let a = c.args in
+    let put = put_of (goal.at.returns c).After-put_line in
+    let end = c.put_line.result in
     let some = part_some a.words.now a.number in
-    let behind : p.put_line.result ≡ p.put_line.result - 1 + 1 = omega (arith, put.0.ends, some) in
-    record { put = subst (λ (k : ℕ). Put a.text.now p.put_line.new.text a.at k
-          (line_of a.words.now (a.number ∷ []))) behind put.0; upper_bound = omega (arith, put.1) }
+    let behind : end ≡ end - 1 + 1 = omega (arith, put.0.ends, some) in
+    record {
+      put =
+          subst (λ (k : ℕ). Put a.text.now c.put_line.new.text a.at k (line_of a.words.now (a.number ∷ [])))
+          behind put.0;
+      upper_bound = omega (arith, put.1);
+    }

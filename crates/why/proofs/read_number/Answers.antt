@@ -2,12 +2,8 @@
 -- each byte is read in turn: the text is digits where what is left of it is, and its value is what is left read behind
 -- the value so far, both capped. A byte that is no digit decides. What is left of the text falls. Assumes nothing.
 use mathlib.Core.Path.{◌≡◌, sym, ◌∙◌}
-use Prim.Native.Nat.{◌-◌}
 use native.Mathlib.Omega.{arith}
-use lib.ListN.{length}
-use borrow.Author.Tests.{not-true, not-false}
 use Rattle.why.proofs.Numbers.{
-  ReadTo,
   read_begins,
   read_bad,
   read_turn,
@@ -18,13 +14,8 @@ use Rattle.why.proofs.Numbers.{
   number_other,
   number_read,
 }
-use borrow.Author.Rules.{rules}
 use Rattle.why.proofs.read_number.Reads as Reads
 use Rattle.why.proofs.read_number.Goals as goal
-use Rattle.why.proofs.read_number.Goals.{After-is_digit, At-loop-i, Else-not-is_digit, In-loop-i, Start}
-
-abbrev start_of : At-loop-i → Start
-start_of h = (goal.at.At-loop-i h).Start
 
 -- the contract admits one reply
 pub only_one : (κs : _) (a : _) (r s : _) (x y : _) → Reads.Post κs a r x → Reads.Post κs a s y → r ≡ s
@@ -41,37 +32,25 @@ loop-i-init c = read_begins c.args.text.now
 
 pub returns-then-not-is_digit : goal.returns-then-not-is_digit
 returns-then-not-is_digit c =
-    let call = (goal.at.returns-then-not-is_digit c).After-is_digit in
-    let inside = (goal.at.After-is_digit call).In-loop-i in
-    let head = (goal.at.In-loop-i inside).At-loop-i in
-    let text = (start_of head).args.text.now in
+    let text = c.args.text.now in
     number_other text
-    (read_bad text head.loop-i.i head.loop-i.value head.loop-i.invariant inside.loop-i-test.true
-    (sym call.is_digit.ensures ∙ not-true _ c.if-not-is_digit.true))
+    (read_bad text c.loop-i.i c.loop-i.value c.loop-i.invariant c.loop-i-test.true
+    (sym c.is_digit.ensures ∙ c.if-not-is_digit.true))
 
 pub add_digit-value-requires : goal.add_digit-value-requires
-add_digit-value-requires c =
-    let call = (goal.at.add_digit-value-requires c).After-is_digit in
-    let head = (goal.at.After-is_digit call).At-loop-i in
-    (head.loop-i.invariant.low, sym call.is_digit.ensures ∙ not-false _ c.if-not-is_digit.false)
+add_digit-value-requires c = (c.loop-i.invariant.low, sym c.is_digit.ensures ∙ c.if-not-is_digit.false)
 
 pub loop-i-preserved : goal.loop-i-preserved
 loop-i-preserved c =
-    let else = (goal.at.loop-i-preserved c).Else-not-is_digit in
-    let call = (goal.at.Else-not-is_digit else).After-is_digit in
-    let inside = (goal.at.After-is_digit call).In-loop-i in
-    let head = (goal.at.In-loop-i inside).At-loop-i in
-    let text = (start_of head).args.text.now in
-    read_turn text head.loop-i.i head.loop-i.value head.loop-i.invariant inside.loop-i-test.true _
-    (sym call.is_digit.ensures ∙ not-false _ else.if-not-is_digit.false)
+    read_turn c.args.text.now c.loop-i.i c.loop-i.value c.loop-i.invariant c.loop-i-test.true _
+    (sym c.is_digit.ensures ∙ c.if-not-is_digit.false)
     c.add_digit-value.ensures
 
 pub returns : goal.returns
 returns c =
-    let head = (goal.at.returns c).At-loop-i in
-    let text = (start_of head).args.text.now in
-    let i = head.loop-i.i in
-    let r = head.loop-i.invariant in
-    number_read text head.loop-i.value head.if-text-eq0.false head.if-text-gt20.false
-    (read_good text i head.loop-i.value r c.loop-i-test.false)
-    (read_value text i head.loop-i.value r c.loop-i-test.false)
+    let text = c.args.text.now in
+    let i = c.loop-i.i in
+    let r = c.loop-i.invariant in
+    number_read text c.loop-i.value c.if-text-eq0.false c.if-text-gt20.false
+    (read_good text i c.loop-i.value r c.loop-i-test.false)
+    (read_value text i c.loop-i.value r c.loop-i-test.false)

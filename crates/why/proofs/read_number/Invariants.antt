@@ -1,25 +1,9 @@
 -- `why::read_number` meets its contract: an empty text and one of more than 20 bytes are no box number. Of the others
 -- each byte is read in turn: the text is digits where what is left of it is, and its value is what is left read behind
 -- the value so far, both capped. A byte that is no digit decides. What is left of the text falls. Assumes nothing.
-use mathlib.Core.Path.{◌≡◌, sym, ◌∙◌}
 use Prim.Native.Nat.{◌-◌}
-use native.Mathlib.Omega.{arith}
 use lib.ListN.{length}
-use borrow.Author.Tests.{not-true, not-false}
-use Rattle.why.proofs.Numbers.{
-  ReadTo,
-  read_begins,
-  read_bad,
-  read_turn,
-  read_good,
-  read_value,
-  number_empty,
-  number_long,
-  number_other,
-  number_read,
-}
-use borrow.Author.Rules.{rules}
-use Rattle.why.proofs.read_number.Reads as Reads
+use Rattle.why.proofs.Numbers.{ReadTo}
 use Rattle.why.proofs.read_number.Given as goal
 
 abbrev pub invariant-loop-i : goal.invariant-loop-i

@@ -18,12 +18,15 @@ use Rattle.run.proofs.Whole.{
   reasons_are,
   next_is,
 }
-use borrow.Author.Rules.{rules}
-use Rattle.run.proofs.Run.iterate.Statement.{statement}
-use Rattle.run.proofs.Run.iterate.Tie as tie
 use Rattle.run.proofs.Run.iterate.Reads as Reads
 use Rattle.run.proofs.Run.iterate.Goals as goal
-use Rattle.run.proofs.Run.iterate.Goals.{After-step5_lists-listed, After-step5_reasons-reasons, After-step5_rows, After-steps-cast, Else-refusal-ne0}
+use Rattle.run.proofs.Run.iterate.Goals.{
+  After-step5_lists-listed,
+  After-step5_reasons-reasons,
+  After-step5_rows,
+  After-steps-cast,
+  Else-refusal-ne0,
+}
 
 -- where the refusal is 0 the call is accepted
 not_refused : (c : Else-refusal-ne0) → let a = c.args in iterate_refusal a.self a.table.now ≡ 0
@@ -49,16 +52,18 @@ abbrev reasons_given : After-step5_rows → After-step5_reasons-reasons
 reasons_given c = (goal.at.After-step5_rows c).After-step5_reasons-reasons
 
 -- the lists of step 5 are those of the definitions
-listed : (c : After-step5_lists-listed) → let cast = cast_given c in let a = (passed cast).args in c.step5_lists-listed.result ≡ build 13 (entry a.self.n a.self.faulty (new_list a.self a.table.now))
+listed : (c : After-step5_lists-listed) →
+    let cast = cast_given c in
+    let a = (passed cast).args in
+    c.step5_lists-listed.result ≡ build 13 (entry a.self.n a.self.faulty (new_list a.self a.table.now))
 listed c =
     let cast = cast_given c in
     c.step5_lists-listed.ensures ∙ lists_are _ _ (accepted (passed cast)) _ cast.steps-cast.ensures
 
--- GOAL? overflow-add-t27
-add-t27 : tie.Need-overflow-add-t27
-add-t27 c =
-    let cast = cast_given (lists_given c.before) in
-    omega (arith, sent_small _ _ (accepted (passed cast)) cast.steps.result cast.steps.ensures)
+pub overflow_add-run : goal.overflow_add-run
+overflow_add-run c =
+    let cast = cast_given (lists_given (goal.at.overflow_add-run c).After-step5_reasons-reasons) in
+    omega (arith, sent_small _ _ (accepted (passed cast)) cast.steps-cast.result cast.steps-cast.ensures)
 
 -- the contract admits one reply
 pub only_one : (κs : _) (a : _) (r s : _) (x y : _) → Reads.Post κs a r x → Reads.Post κs a s y → r ≡ s
@@ -96,4 +101,5 @@ returns c =
     let e = cast.steps-cast.ensures in
     iterate_taken _ _ _ (not_refused (passed cast))
     (next_is _ _ a _ e _ _ _ (c.step5_rows.ensures ∙ rows_are _ _ a _ e) (listed lists)
-    (why.step5_reasons-reasons.ensures.value ∙ reasons_are _ _ a _ e _ (listed lists) why.step5_reasons-reasons.ensures.all_places))
+    (why.step5_reasons-reasons.ensures.value
+    ∙ reasons_are _ _ a _ e _ (listed lists) why.step5_reasons-reasons.ensures.all_places))

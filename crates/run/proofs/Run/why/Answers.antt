@@ -1,16 +1,13 @@
 -- `run::Run::why` meets its contract: it refuses with no reason, and otherwise reads the three parts at the place of
 -- the two boxes. Assumes nothing.
 use mathlib.Core.Path.{◌≡◌, refl, sym, ◌∙◌}
-use Prim.Native.Nat.{◌-◌, ◌≤◌}
+use Prim.Native.Nat.{◌≤◌}
 use native.Mathlib.Omega.{arith}
 use Rattle.sizes.proofs.Laws.{inside_high}
 use Rattle.run.specs.Iteration.{no_reason, reason_from, reason_in, reason_at}
 use Rattle.run.specs.Why.{why_refusal}
 use Rattle.run.proofs.Accepted.{Askable, is_askable, is_number}
 use Rattle.run.proofs.Refusals.{why_refused, why_taken}
-use borrow.Author.Rules.{rules}
-use Rattle.run.proofs.Run.why.Statement.{statement}
-use Rattle.run.proofs.Run.why.Tie as tie
 use Rattle.run.proofs.Run.why.Reads as Reads
 use Rattle.run.proofs.Run.why.Goals as goal
 use Rattle.run.proofs.Run.why.Goals.{Else-refusal-ne0}
@@ -52,13 +49,16 @@ pub overflow_add-place : goal.overflow_add-place
 overflow_add-place c = let b = bounds c in omega (arith, b.0, b.1, b.2, b.3)
 
 pub bounds-reasons-place : goal.bounds-reasons-place
-bounds-reasons-place c = let b = bounds (goal.at.bounds-reasons-place c).Else-refusal-ne0 in omega (arith, b.0, b.1, b.2, b.3)
+bounds-reasons-place c =
+    let b = bounds (goal.at.bounds-reasons-place c).Else-refusal-ne0 in omega (arith, b.0, b.1, b.2, b.3)
 
 pub bounds-reasons-place-2 : goal.bounds-reasons-place-2
-bounds-reasons-place-2 c = let b = bounds (goal.at.bounds-reasons-place-2 c).Else-refusal-ne0 in omega (arith, b.0, b.1, b.2, b.3)
+bounds-reasons-place-2 c =
+    let b = bounds (goal.at.bounds-reasons-place-2 c).Else-refusal-ne0 in omega (arith, b.0, b.1, b.2, b.3)
 
 pub bounds-reasons-place-3 : goal.bounds-reasons-place-3
-bounds-reasons-place-3 c = let b = bounds (goal.at.bounds-reasons-place-3 c).Else-refusal-ne0 in omega (arith, b.0, b.1, b.2, b.3)
+bounds-reasons-place-3 c =
+    let b = bounds (goal.at.bounds-reasons-place-3 c).Else-refusal-ne0 in omega (arith, b.0, b.1, b.2, b.3)
 
 pub returns : goal.returns
 unfolding reason_at reason_in reason_from
