@@ -6,15 +6,17 @@ ghost use Rattle.lines.specs.Line.{line_writes};
 
 // The numbers of the three streams that every program has.
 pub const STANDARD_INPUT: i32 = 0;
+
 pub const STANDARD_OUTPUT: i32 = 1;
+
 pub const STANDARD_ERROR: i32 = 2;
 
 // Fills a part that lies within the bytes: reads until it is full, the input ends or a read fails.
 fn fill_part(bytes: &mut [u8], at: usize, end: usize) -> usize
     requires { (at ≤ end) × (end ≤ length bytes.old) }
-    ensures lower_bound { (at ≤ result) × (result ≤ end) }
-    ensures bytes_unchanged { take at bytes.new ≡ take at bytes.old }
-    ensures bytes_unchanged_2 { drop end bytes.new ≡ drop end bytes.old }
+    ensures within { (at ≤ result) × (result ≤ end) }
+    ensures front { take at bytes.new ≡ take at bytes.old }
+    ensures back { drop end bytes.new ≡ drop end bytes.old }
 {
     at + io::read_full(STANDARD_INPUT, &mut bytes[at..end])
 }
@@ -23,10 +25,10 @@ fn fill_part(bytes: &mut [u8], at: usize, end: usize) -> usize
 // last byte that came. What lies before and behind the part stays. Where the bytes have no such part, nothing is
 // read. Which bytes come in, and how many, is left open: no contract can say what stands on standard input.
 pub fn fill(bytes: &mut [u8], at: usize, end: usize) -> usize
-    ensures lower_bound { (at ≤ result) × (result ≤ at + (end - at)) }
-    ensures bytes_unchanged { take at bytes.new ≡ take at bytes.old }
-    ensures bytes_unchanged_2 { drop end bytes.new ≡ drop end bytes.old }
-    ensures value { length bytes.old < end → (result ≡ at) × (bytes.new ≡ bytes.old) }
+    ensures within { (at ≤ result) × (result ≤ at + (end - at)) }
+    ensures front { take at bytes.new ≡ take at bytes.old }
+    ensures back { drop end bytes.new ≡ drop end bytes.old }
+    ensures no_part { length bytes.old < end → (result ≡ at) × (bytes.new ≡ bytes.old) }
 {
     if end < at {
         return at;

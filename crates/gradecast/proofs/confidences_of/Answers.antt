@@ -11,15 +11,11 @@ use Rattle.tally.specs.Tally.{confidence_at}
 use Rattle.gradecast.proofs.Cells.{cells_mapped}
 use borrow.Author.Rules.{rules}
 use Rattle.gradecast.proofs.confidences_of.Goals as goal
-use Rattle.gradecast.proofs.confidences_of.Goals.{After-way_told-1, At-loop-p, In-loop-p, Start}
-
--- the entry, from the loop
-abbrev entry : At-loop-p → Start
-entry c = (goal.at.At-loop-p c).Start
+use Rattle.gradecast.proofs.confidences_of.Goals.{In-loop-p}
 
 -- the place of a turn is among the 169
 within : (c : In-loop-p) → c.loop-p.p < 169
-within c = omega (arith, square_le (entry (goal.at.In-loop-p c).At-loop-p).requires, c.loop-p-test.true)
+within c = omega (arith, square_le c.requires, c.loop-p-test.true)
 
 pub overflow_mul-size : goal.overflow_mul-size
 overflow_mul-size c = omega (arith, square_le c.requires)
@@ -35,9 +31,7 @@ overflow_add-p c = omega (arith, within (goal.at.overflow_add-p c).In-loop-p)
 
 pub loop-p-preserved : goal.loop-p-preserved
 loop-p-preserved c =
-    let turn = (goal.at.loop-p-preserved c).After-way_told-1 in
-    fill_turn _ _ (square_le (entry (goal.at.After-way_told-1 turn).At-loop-p).requires) turn.loop-p.invariant turn.loop-p-test.true
-    c.confidence_at.ensures
+    fill_turn _ _ (square_le c.requires) c.loop-p.invariant c.loop-p-test.true c.confidence_at.ensures
 
 pub returns : goal.returns
 returns c =

@@ -13,15 +13,11 @@ use Rattle.gradecast.proofs.Asked.{on_counted, on_other}
 use Rattle.gradecast.proofs.Columns.{column_fits, part_row, part_support}
 use borrow.Author.Rules.{rules}
 use Rattle.gradecast.proofs.grade_on.Goals as goal
-use Rattle.gradecast.proofs.grade_on.Goals.{After-struct_known-1, Start, Then-must_count}
+use Rattle.gradecast.proofs.grade_on.Goals.{Start, Then-must_count}
 
 -- the entry, from where leader k is to be counted
 abbrev start : Then-must_count → Start
 start c = (goal.at.Then-must_count c).Start
-
--- the entry, from where it is not
-abbrev entry : After-struct_known-1 → Start
-entry c = (goal.at.After-struct_known-1 c).Start
 
 -- leader k's column lies within what was heard
 fits : (c : Then-must_count) → let a = (start c).args in let n = a.hall.settings.n in a.k * n + n ≤ length a.heard.now
@@ -56,11 +52,11 @@ returns-then-must_count c =
     )
 
 pub overflow_add-support : goal.overflow_add-support
-overflow_add-support c = let p = (entry c).requires in omega (arith, p.2, p.3)
+overflow_add-support c = let p = c.requires in omega (arith, p.2, p.3)
 
 pub returns : goal.returns
 returns c =
-    let a = (entry c).args in
+    let a = c.args in
     let not-counted = sym c.must_count.ensures ∙ c.if-must_count.false in
     let support = a.hall.many + a.echoes in (
       sym (on_other _ _ graded_row a.own a.heard.now a.k not-counted),

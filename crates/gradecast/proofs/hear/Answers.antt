@@ -6,17 +6,13 @@ use Rattle.counting.specs.Sets.{member}
 use Rattle.gradecast.specs.Steps.{hears, sends}
 use borrow.Author.Rules.{rules}
 use Rattle.gradecast.proofs.hear.Goals as goal
-use Rattle.gradecast.proofs.hear.Goals.{Else-is_member, Start, Then-is_member-2}
-
--- the entry, from behind the first test
-abbrev start : Else-is_member → Start
-start c = (goal.at.Else-is_member c).Start
+use Rattle.gradecast.proofs.hear.Goals.{Else-is_member, Then-is_member-2}
 
 -- what the tests say
-not_listed : (c : Else-is_member) → let a = (start c).args in member a.list a.j ≡ false
+not_listed : (c : Else-is_member) → let a = c.args in member a.list a.j ≡ false
 not_listed c = sym c.is_member.ensures ∙ c.if-is_member.false
 
-is_faulty : (c : Then-is_member-2) → let a = (start (goal.at.Then-is_member-2 c).Else-is_member).args in member a.settings.faulty a.j ≡ true
+is_faulty : (c : Then-is_member-2) → let a = c.args in member a.settings.faulty a.j ≡ true
 is_faulty c = sym c.is_member-2.ensures ∙ c.if-is_member-2.true
 
 pub returns-then-is_member : goal.returns-then-is_member
@@ -25,7 +21,9 @@ returns-then-is_member c = rw (sym c.is_member.ensures ∙ c.if-is_member.true) 
 
 pub returns-then-is_member-2 : goal.returns-then-is_member-2
 unfolding hears sends
-returns-then-is_member-2 c = rw (not_listed (goal.at.returns-then-is_member-2 c).Else-is_member, is_faulty (goal.at.returns-then-is_member-2 c).Then-is_member-2) refl
+returns-then-is_member-2 c =
+    let from = goal.at.returns-then-is_member-2 c in
+    rw (not_listed from.Else-is_member, is_faulty from.Then-is_member-2) refl
 
 pub returns : goal.returns
 unfolding hears sends

@@ -8,7 +8,7 @@ use Rattle.gradecast.proofs.Cells.{place_fits}
 use Rattle.gradecast.proofs.Columns.{Hearing, sender_begins, sender_turn, sender_fits, sender_ends}
 use borrow.Author.Rules.{rules}
 use Rattle.gradecast.proofs.hear_plain_from.Goals as goal
-use Rattle.gradecast.proofs.hear_plain_from.Goals.{After-way_told-1, In-loop-k, Start}
+use Rattle.gradecast.proofs.hear_plain_from.Goals.{In-loop-k, Start}
 
 -- the entry, from a turn
 abbrev start : In-loop-k → Start

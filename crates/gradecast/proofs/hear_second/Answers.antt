@@ -2,7 +2,6 @@
 -- What the senders say that are neither faulty nor listed is there all along, and is what the box hears from them; the
 -- rows of any other sender are put down and leave those as they are. What is left of n falls. Assumes nothing.
 use mathlib.Core.Path.{◌≡◌, sym, ◌∙◌}
-use mathlib.Core.Logic.{⊎_elim}
 use Prim.Native.Nat.{◌-◌, ◌≤◌}
 use native.Mathlib.Omega.{arith}
 use lib.ListN.{length, get_or}
@@ -11,21 +10,12 @@ use Rattle.gradecast.proofs.Columns.{senders_turn}
 use Rattle.gradecast.proofs.Plain.{plain_turn, plain_stays}
 use borrow.Author.Rules.{rules}
 use Rattle.gradecast.proofs.hear_second.Goals as goal
-use Rattle.gradecast.proofs.hear_second.Goals.{After-is_member, At-loop-j, In-loop-j, Start}
-
--- the entry, from the loop
-abbrev entry : At-loop-j → Start
-entry c = (goal.at.At-loop-j c).Start
-
--- the entry, from a turn
-abbrev start : In-loop-j → Start
-start c = entry (goal.at.In-loop-j c).At-loop-j
+use Rattle.gradecast.proofs.hear_second.Goals.{After-is_member, then-is_member, else-is_member}
 
 -- what the test says
-is_odd : (c : After-is_member) → let a = (start (goal.at.After-is_member c).In-loop-j).args in odd_to 13 a.seat.hall.settings.faulty a.lists.now c.loop-j.j ≡ c.is_member.result
-is_odd c =
-    let odd_set = (start (goal.at.After-is_member c).In-loop-j).requires.0.prepared.odd_set in
-    sym (odd_set c.loop-j.j) ∙ sym c.is_member.ensures
+is_odd : (c : After-is_member) →
+    odd_to 13 c.args.seat.hall.settings.faulty c.args.lists.now c.loop-j.j ≡ c.is_member.result
+is_odd c = sym (c.requires.0.prepared.odd_set c.loop-j.j) ∙ sym c.is_member.ensures
 
 pub offset_bounds-lists-i : goal.offset_bounds-lists-i
 offset_bounds-lists-i c = let p = c.requires in omega (arith, p.0.below, p.0.prepared.size.high)
@@ -38,40 +28,39 @@ loop-j-init c = (search rules, search rules, λ k j hk l. absurd (omega arith), 
 
 pub hear_second_from-requires : goal.hear_second_from-requires
 hear_second_from-requires c =
-    let turn = (goal.at.hear_second_from-requires c).In-loop-j in
-    let p = (start turn).requires in (
+    let p = c.requires in (
       p.0.prepared.ready,
-      record { is_box = p.0.below; is_leader = turn.loop-j-test.true },
-      turn.loop-j.invariant.1 ∙ p.1,
+      record { is_box = p.0.below; is_leader = c.loop-j-test.true },
+      c.loop-j.invariant.1 ∙ p.1,
     )
 
 pub loop-j-preserved : goal.loop-j-preserved
 loop-j-preserved c =
-    let turn = (goal.at.loop-j-preserved c).In-loop-j in
-    let a = (start turn).args in
-    let p = (start turn).requires in
+    let a = c.args in
+    let p = c.requires in
     let s = a.seat.hall.settings in
-    let so_far = turn.loop-j in
-    let below = turn.loop-j-test.true in
-    ⊎_elim
-    (λ w.
-    rw w.5 (
-      search rules,
-      search rules,
-      senders_turn _ below so_far.invariant.2 w.2.ensures,
-      plain_stays s a.lists.now a.said.now so_far.j _ _ _ (is_odd (goal.at.loop-j-preserved c).After-is_member ∙ w.0.taken) w.2.ensures
-          so_far.invariant.3,
-    ))
-    (λ w.
-    rw w.1 (
-      search rules,
-      search rules,
-      plain_turn s a.lists.now a.said.now _ a.table.now a.seat.i
-          (omega (arith, p.0.below, p.0.prepared.size.high))
-          so_far.j so_far.heard below (is_odd (goal.at.loop-j-preserved c).After-is_member ∙ w.0.left) so_far.invariant.3 so_far.invariant.2,
-      so_far.invariant.3,
-    ))
-    c.if-is_member.branch
+    let so_far = c.loop-j in
+    let below = c.loop-j-test.true in
+    let odd = is_odd (goal.at.loop-j-preserved c).After-is_member in
+    elim c.if-is_member.branch [
+      | then-is_member w ↦ rw w.heard-is (
+        search rules,
+        search rules,
+        senders_turn _ below so_far.invariant.2 w.hear_second_from.ensures,
+        plain_stays s a.lists.now a.said.now so_far.j _ _ _ (odd ∙ w.if-is_member.true) w.hear_second_from.ensures
+            so_far.invariant.3,
+      )
+      | else-is_member w ↦ rw w.heard-is (
+        search rules,
+        search rules,
+        plain_turn s a.lists.now a.said.now _ a.table.now a.seat.i
+            (omega (arith, p.0.below, p.0.prepared.size.high))
+            so_far.j so_far.heard below (odd ∙ w.if-is_member.false) so_far.invariant.3 so_far.invariant.2,
+        so_far.invariant.3,
+      )
+    ]
 
 pub returns : goal.returns
-returns c = record { all_second = λ k j hk hj. c.loop-j.invariant.2 k j hk (omega arith); plain_heard = c.loop-j.invariant.3 }
+returns c =
+    let inv = c.loop-j.invariant in
+    record { all_second = λ k j hk hj. inv.2 k j hk (omega arith); plain_heard = inv.3 }

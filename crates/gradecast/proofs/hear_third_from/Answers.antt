@@ -11,47 +11,33 @@ use lib.ListN.{length, get_or}
 use Rattle.counting.proofs.Build.{front_next, front_whole}
 use Rattle.counting.proofs.Count.{one_le}
 use Rattle.counting.proofs.Loops.{Filled, fill_begins, fill_turn, fill_length}
-use Rattle.sizes.proofs.Laws.{square_le, cube_le}
 use Rattle.gradecast.specs.Inside.{third_from, said_here, one_more}
 use Rattle.gradecast.proofs.Cells.{place_fits}
 use Rattle.gradecast.proofs.Columns.{Hearing, sender_begins, sender_turn, sender_fits, sender_ends}
 use Rattle.gradecast.proofs.Places.{third_fits}
 use borrow.Author.Rules.{rules}
 use Rattle.gradecast.proofs.hear_third_from.Goals as goal
-use Rattle.gradecast.proofs.hear_third_from.Goals.{After-hear_about-row, After-slice_known-2-1, After-slice_known-in-loop-k-1, At-loop-k, In-loop-k, Start}
+use Rattle.gradecast.proofs.hear_third_from.Goals.{At-loop-k, In-loop-k}
 
--- the entry, from the loop
-abbrev entry : At-loop-k → Start
-entry c = (goal.at.At-loop-k c).Start
-
--- the turn, from where the echo is known
-abbrev turn : After-slice_known-in-loop-k-1 → In-loop-k
-turn c = (goal.at.After-slice_known-in-loop-k-1 c).In-loop-k
-
--- what the box hears from j about leader k, and what it said itself
-abbrev row : After-slice_known-in-loop-k-1 → ℕ
-row c = c.hear_about-row.result
-
+-- what the box said itself about leader k
 abbrev own : In-loop-k → ℕ
 own c =
-    let a = (entry (goal.at.In-loop-k c).At-loop-k).args in
+    let a = c.args in
     get_or a.said.now (a.seat.i * a.seat.hall.settings.n + c.loop-k.k) 0
 
--- the rows of step 3 begin at a small place
-base_small : (c : After-slice_known-2-1) → let n = c.args.seat.hall.settings.n in n * n + n * n * n ≤ 2366
-base_small c =
-    let high = c.requires.0.high in omega (arith, square_le high, cube_le high)
-
 -- the cell that is put and the cell that is read are among the 169
-within : (c : In-loop-k) → let a = (entry (goal.at.In-loop-k c).At-loop-k).args in let n = a.seat.hall.settings.n in (c.loop-k.k * n + a.j < 169) × (a.seat.i * n + c.loop-k.k < 169)
+within : (c : In-loop-k) →
+    let a = c.args in
+    let n = a.seat.hall.settings.n in
+    (c.loop-k.k * n + a.j < 169) × (a.seat.i * n + c.loop-k.k < 169)
 within c =
-    let p = (entry (goal.at.In-loop-k c).At-loop-k).requires in
+    let p = c.requires in
     let is_leader = c.loop-k-test.true in
     (place_fits p.0.high is_leader p.1.is_leader, place_fits p.0.high p.1.is_box is_leader)
 
 -- the thirteen places have room for n
-room : (c : At-loop-k) → let a = (entry c).args in a.seat.hall.settings.n ≤ length a.echoes.now
-room c = let p = (entry c).requires in omega (arith, p.0.high, p.3)
+room : (c : At-loop-k) → let a = c.args in a.seat.hall.settings.n ≤ length a.echoes.now
+room c = let p = c.requires in omega (arith, p.0.high, p.3)
 
 has_place : (c : In-loop-k) → c.loop-k.k < length c.loop-k.echoes
 has_place c =
@@ -59,30 +45,19 @@ has_place c =
     omega (arith, fill_length _ _ wide c.loop-k.invariant.1, wide, c.loop-k-test.true)
 
 -- what stands there is what stood there first
-stands : (c : In-loop-k) → let k = c.loop-k.k in get_or c.loop-k.echoes k 0 ≡ get_or (entry (goal.at.In-loop-k c).At-loop-k).args.echoes.now k 0
+stands : (c : In-loop-k) → let k = c.loop-k.k in get_or c.loop-k.echoes k 0 ≡ get_or c.args.echoes.now k 0
 stands c =
     let k = c.loop-k.k in
+    let wide = room (goal.at.In-loop-k c).At-loop-k in
     ap (λ (xs : List ℕ). get_or xs k 0) c.loop-k.invariant.1.1
-    ∙ front_next k _ (entry (goal.at.In-loop-k c).At-loop-k).args.echoes.now (omega (arith, room (goal.at.In-loop-k c).At-loop-k, c.loop-k-test.true))
-
-pub overflow_mul-base : goal.overflow_mul-base
-overflow_mul-base c = omega (arith, base_small c)
-
-pub overflow_mul-base-2 : goal.overflow_mul-base-2
-overflow_mul-base-2 c = omega (arith, base_small c)
-
-pub overflow_mul-base-3 : goal.overflow_mul-base-3
-overflow_mul-base-3 c = omega (arith, base_small c)
-
-pub overflow_add-base : goal.overflow_add-base
-overflow_add-base c = omega (arith, base_small c)
+    ∙ front_next k _ c.args.echoes.now (omega (arith, wide, c.loop-k-test.true))
 
 pub loop-k-init : goal.loop-k-init
 loop-k-init c = (sender_begins _ _ _ _, fill_begins _ _)
 
 pub hear_about-row-requires : goal.hear_about-row-requires
 hear_about-row-requires c =
-    let p = (entry (goal.at.hear_about-row-requires c).At-loop-k).requires in
+    let p = c.requires in
     (p.0, p.1, c.loop-k-test.true, third_fits _)
 
 pub overflow_mul-heard : goal.overflow_mul-heard
@@ -97,7 +72,7 @@ offset_bounds-heard-k c = omega (arith, (within (goal.at.offset_bounds-heard-k c
 pub bounds-heard-k : goal.bounds-heard-k
 bounds-heard-k c =
     let t = (goal.at.bounds-heard-k c).In-loop-k in
-    let p = (entry (goal.at.In-loop-k t).At-loop-k).requires in
+    let p = c.requires in
     sender_fits p.0.high p.1.is_leader _ p.2 t.loop-k.invariant.0 t.loop-k-test.true
 
 pub overflow_mul-i : goal.overflow_mul-i
@@ -111,24 +86,24 @@ offset_bounds-said-i c = omega (arith, (within (goal.at.offset_bounds-said-i c).
 
 pub overflow_add-echoes : goal.overflow_add-echoes
 overflow_add-echoes c =
-    let t = turn c in
-    let p = (entry (goal.at.In-loop-k t).At-loop-k).requires in
+    let t = (goal.at.overflow_add-echoes c).In-loop-k in
+    let p = c.requires in
     let one = c.one_if_echo.ensures in
     omega (
       arith,
       stands t,
-      p.4 t.loop-k.k t.loop-k-test.true,
+      p.4 c.loop-k.k c.loop-k-test.true,
       p.0.high,
-      subst (λ (m : ℕ). m ≤ 1) (sym one) (one_le (eqb (row c) (own t))),
+      subst (λ (m : ℕ). m ≤ 1) (sym one) (one_le (eqb c.hear_about-row.result (own t))),
     )
 
 pub bounds-echoes-k-in-loop-k : goal.bounds-echoes-k-in-loop-k
-bounds-echoes-k-in-loop-k c = has_place (turn c)
+bounds-echoes-k-in-loop-k c = has_place (goal.at.bounds-echoes-k-in-loop-k c).In-loop-k
 
 pub loop-k-preserved : goal.loop-k-preserved
 loop-k-preserved c =
-    let t = turn c in
-    let p = (entry (goal.at.In-loop-k t).At-loop-k).requires in
+    let t = (goal.at.loop-k-preserved c).In-loop-k in
+    let p = c.requires in
     let inv = t.loop-k.invariant in
     let below = t.loop-k-test.true in
     let heard = c.hear_about-row.ensures in
@@ -141,4 +116,7 @@ loop-k-preserved c =
 pub returns : goal.returns
 returns c =
     let inv = c.loop-k.invariant in
-    record { from_sender = sender_ends _ inv.0 (omega arith); echoes_after = front_whole _ _ (omega (arith, inv.1.0)) inv.1.1 }
+    record {
+      from_sender = sender_ends _ inv.0 (omega arith);
+      echoes_after = front_whole _ _ (omega (arith, inv.1.0)) inv.1.1;
+    }

@@ -14,7 +14,9 @@ digits : (c : Start) → let a = c.args in (a.sender * a.n + a.receiver) * a.n +
 digits c = let p = c.requires in three_digits p.2 p.3.is_box p.3.is_leader
 
 -- and the two before them are small numbers
-small : (c : Start) → let a = c.args in (a.sender * a.n + a.receiver < 169) × ((a.sender * a.n + a.receiver) * a.n + a.leader < 2197)
+small : (c : Start) →
+    let a = c.args in
+    (a.sender * a.n + a.receiver < 169) × ((a.sender * a.n + a.receiver) * a.n + a.leader < 2197)
 small c =
     let p = c.requires in
     (omega (arith, square_le p.0, two_digits p.2 p.3.is_box), omega (arith, cube_le p.0, digits c))

@@ -8,23 +8,10 @@ use Rattle.gradecast.specs.Inside.{PlainHeard, SaidSecond, votes_of_sound}
 use Rattle.gradecast.proofs.Cells.{BoxesTo, boxes_begin, boxes_turn, boxes_end}
 use borrow.Author.Rules.{rules}
 use Rattle.gradecast.proofs.step3.Goals as goal
-use Rattle.gradecast.proofs.step3.Goals.{After-slice_known-3-1, After-slice_known-in-loop-i-2-1, After-step3_box, At-loop-i, In-loop-i, Start}
-
--- the entry, from the loop's beginning
-abbrev start : After-slice_known-3-1 → Start
-start c = (goal.at.After-slice_known-3-1 c).Start
-
--- the box, from a turn's end
-abbrev box : After-slice_known-in-loop-i-2-1 → After-step3_box
-box c = (goal.at.After-slice_known-in-loop-i-2-1 c).After-step3_box
-
--- the loop, from the box
-abbrev so_far : After-step3_box → At-loop-i
-so_far c = (goal.at.After-step3_box c).At-loop-i
 
 pub loop-i-init : goal.loop-i-init
 loop-i-init c =
-    let p = (start c).requires in
+    let p = c.requires in
     let plain = c.hear_plain in (
       search rules,
       plain.auto.heard ∙ p.1,
@@ -34,16 +21,14 @@ loop-i-init c =
 
 pub step3_box-requires : goal.step3_box-requires
 step3_box-requires c =
-    let turn = (goal.at.step3_box-requires c).In-loop-i in
-    let inv = turn.loop-i.invariant in
-    let p = (start (goal.at.In-loop-i turn).After-slice_known-3-1).requires in
-    (record { prepared = p.0; below = turn.loop-i-test.true }, inv.1, inv.3.0, inv.2)
+    let inv = c.loop-i.invariant in
+    (record { prepared = c.requires.0; below = c.loop-i-test.true }, inv.1, inv.3.0, inv.2)
 
 pub loop-i-preserved : goal.loop-i-preserved
 loop-i-preserved c =
-    let put = (box c).step3_box.ensures in
-    let inv = (so_far (box c)).loop-i.invariant in
-    (search rules, search rules, put.1, boxes_turn _ _ _ _ inv.3 (search rules) put.0)
+    let put = c.step3_box.ensures in
+    let inv = c.loop-i.invariant in
+    (search rules, search rules, put.plain_heard, boxes_turn _ _ _ _ inv.3 (search rules) put.put_votes)
 
 pub returns : goal.returns
 returns c = boxes_end _ _ _ (omega arith) c.loop-i.invariant.3

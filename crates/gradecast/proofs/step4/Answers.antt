@@ -8,26 +8,10 @@ use Rattle.gradecast.specs.Inside.{PlainHeard, SaidThird, rows_of_sound, support
 use Rattle.gradecast.proofs.Cells.{BoxesTo, boxes_begin, boxes_turn, boxes_end}
 use borrow.Author.Rules.{rules}
 use Rattle.gradecast.proofs.step4.Goals as goal
-use Rattle.gradecast.proofs.step4.Goals.{After-hear_plain, After-slice_known-4-1, After-slice_known-in-loop-i-3-1, After-step4_box, At-loop-i, In-loop-i, Start}
-
--- where the senders are put down, from the loop's beginning, and the entry
-abbrev put_down : After-slice_known-4-1 → After-hear_plain
-put_down c = (goal.at.After-slice_known-4-1 c).After-hear_plain
-
-abbrev start : After-slice_known-4-1 → Start
-start c = (goal.at.After-hear_plain (put_down c)).Start
-
--- the box, from a turn's end
-abbrev box : After-slice_known-in-loop-i-3-1 → After-step4_box
-box c = (goal.at.After-slice_known-in-loop-i-3-1 c).After-step4_box
-
--- the loop, from the box
-abbrev so_far : After-step4_box → At-loop-i
-so_far c = (goal.at.After-step4_box c).At-loop-i
 
 pub loop-i-init : goal.loop-i-init
 loop-i-init c =
-    let p = (start c).requires in
+    let p = c.requires in
     let plain = c.hear_plain in (
       search rules,
       plain.auto.heard ∙ p.1,
@@ -38,20 +22,18 @@ loop-i-init c =
 
 pub step4_box-requires : goal.step4_box-requires
 step4_box-requires c =
-    let turn = (goal.at.step4_box-requires c).In-loop-i in
-    let inv = turn.loop-i.invariant in
-    let p = (start (goal.at.In-loop-i turn).After-slice_known-4-1).requires in
-    (record { prepared = p.0; below = turn.loop-i-test.true }, inv.1, inv.3.0, inv.4.0, inv.2)
+    let inv = c.loop-i.invariant in
+    (record { prepared = c.requires.0; below = c.loop-i-test.true }, inv.1, inv.3.0, inv.4.0, inv.2)
 
 pub loop-i-preserved : goal.loop-i-preserved
 loop-i-preserved c =
-    let put = (box c).step4_box.ensures in
-    let inv = (so_far (box c)).loop-i.invariant in (
+    let put = c.step4_box.ensures in
+    let inv = c.loop-i.invariant in (
       search rules,
       search rules,
-      put.1.1,
-      boxes_turn _ _ _ _ inv.3 (search rules) put.0,
-      boxes_turn _ _ _ _ inv.4 (search rules) put.1.0,
+      put.plain_heard,
+      boxes_turn _ _ _ _ inv.3 (search rules) put.put_rows,
+      boxes_turn _ _ _ _ inv.4 (search rules) put.put_supports,
     )
 
 pub returns : goal.returns

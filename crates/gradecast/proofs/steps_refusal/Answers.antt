@@ -14,7 +14,9 @@ right_size : (c : Else-refusal-ne0) → let a = c.args in size_refusal a.n a.t �
 right_size c = sym c.size_refusal-refusal.ensures ∙ c.if-refusal-ne0.false
 
 pub returns-then-refusal-ne0 : goal.returns-then-refusal-ne0
-returns-then-refusal-ne0 c = let e = c.size_refusal-refusal.ensures in e ∙ steps_fail _ _ _ (λ z. c.if-refusal-ne0.true (e ∙ z))
+returns-then-refusal-ne0 c =
+    let e = c.size_refusal-refusal.ensures in
+    e ∙ steps_fail _ _ _ (λ z. c.if-refusal-ne0.true (e ∙ z))
 
 pub overflow_cast-n : goal.overflow_cast-n
 overflow_cast-n c =
@@ -22,7 +24,11 @@ overflow_cast-n c =
     omega (arith, passes_sized a.n a.t (right_size c))
 
 pub returns-then-table-table_rows : goal.returns-then-table-table_rows
-returns-then-table-table_rows c = steps_cut _ _ _ (right_size (goal.at.returns-then-table-table_rows c).Else-refusal-ne0) c.table_rows.ensures c.if-table-table_rows.true
+returns-then-table-table_rows c =
+    let sized = right_size (goal.at.returns-then-table-table_rows c).Else-refusal-ne0 in
+    steps_cut _ _ _ sized c.table_rows.ensures c.if-table-table_rows.true
 
 pub returns : goal.returns
-returns c = steps_pass _ _ _ (right_size (goal.at.returns c).Else-refusal-ne0) c.table_rows.ensures c.if-table-table_rows.false
+returns c =
+    let sized = right_size (goal.at.returns c).Else-refusal-ne0 in
+    steps_pass _ _ _ sized c.table_rows.ensures c.if-table-table_rows.false

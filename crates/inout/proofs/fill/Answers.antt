@@ -7,29 +7,8 @@ use native.Mathlib.Omega.{arith}
 use lib.ListN.{length, take, drop, take-append-drop}
 use lib.Seq.{drop-drop}
 use borrow.Author.Rules.{rules}
-use Rattle.inout.proofs.fill.Statement.{statement}
-use Rattle.inout.proofs.fill.Tie as tie
 use Rattle.inout.proofs.fill.Reads as Reads
-
-returns : tie.Need-returns
-returns c = (omega arith, (refl, (refl, λ h. (refl, refl))))
-
-returns-2 : tie.Need-returns-2
-returns-2 c = (omega arith, (refl, (refl, λ h. (refl, refl))))
-
-fill-part-requires : tie.Need-fill-part-requires
-fill-part-requires c κs = search rules
-
-same_length : tie.Need-same-length
-same_length c = search rules
-
-returns-3 : tie.Need-returns-3
-returns-3 c =
-    let part = c.before.before.fill-part.ensures in
-    (omega (arith, part.0), (part.1.0, (part.1.1, λ h. absurd (omega (arith, h)))))
-
-pub fill_spec : {M : Type 1} → statement M
-fill_spec = tie.close (tie.spec returns returns-2 fill-part-requires same_length returns-3)
+use Rattle.inout.proofs.fill.Goals as goal
 
 -- two lists with the same front and the same rest, which meet or overlap
 joined : (at end : ℕ) (xs ys : List ℕ) → end ≤ at → take at xs ≡ take at ys → drop end xs ≡ drop end ys → xs ≡ ys
@@ -63,3 +42,14 @@ one_backward κs a r s x y p q backward = (
   joined a.1.0 a.1.1.0 x.0.now y.0.now backward (p.1.0 ∙ sym q.1.0)
       (p.1.1.0 ∙ sym q.1.1.0),
 )
+
+pub returns-then-end-at : goal.returns-then-end-at
+returns-then-end-at c = record { within = omega arith; front = refl; back = refl; no_part = λ h. (refl, refl) }
+
+pub returns-then-bytes-end : goal.returns-then-bytes-end
+returns-then-bytes-end c = record { within = omega arith; front = refl; back = refl; no_part = λ h. (refl, refl) }
+
+pub returns : goal.returns
+returns c =
+    let part = c.fill_part.ensures in
+    record { within = omega (arith, part.within); front = part.front; back = part.back; no_part = λ h. absurd (omega (arith, h)) }
