@@ -4,7 +4,6 @@ use mathlib.Core.Path.{refl, sym}
 use mathlib.Core.Bool.{false≢true}
 use native.Mathlib.Omega.{arith}
 use Rattle.lines.proofs.Digits.{takes_low, takes_high, takes_large, takes_well}
-use borrow.Author.Rules.{rules}
 use Rattle.lines.proofs.add_digit.Goals as goal
 
 pub returns-then-byte-lt48 : goal.returns-then-byte-lt48
@@ -25,4 +24,7 @@ returns-then-digit-value c =
 pub returns : goal.returns
 returns c =
     let f = c.args in
-    record { good_value = sym (takes_well f.value f.byte (omega arith) (omega arith) (omega arith)); value_value = λ e. refl }
+    record {
+      good_value = sym (takes_well f.value f.byte (omega arith) (omega arith) (omega arith));
+      value_value = λ e. refl;
+    }

@@ -14,7 +14,10 @@ pub returns-then-size-eq0 : goal.returns-then-size-eq0
 returns-then-size-eq0 c =
     let line = c.args.line.now in
     let last = get_or-eq_default line 0 {n = length line - 1} (omega arith) in
-    record { upper_bound = search rules; line_value = take_all 0 line (omega arith) ∙ bare_whole line (λ e. omega (arith, e, last)) }
+    record {
+      upper_bound = search rules;
+      line_value = take_all 0 line (omega arith) ∙ bare_whole line (λ e. omega (arith, e, last));
+    }
 
 pub returns-then-line-size-eq13 : goal.returns-then-line-size-eq13
 returns-then-line-size-eq13 c =
@@ -24,4 +27,7 @@ returns-then-line-size-eq13 c =
 pub returns : goal.returns
 returns c =
     let line = c.args.line.now in
-    record { upper_bound = search rules; line_value = take_all (length line) line (le_refl _) ∙ bare_whole line c.if-line-size-eq13.false }
+    record {
+      upper_bound = search rules;
+      line_value = take_all (length line) line (le_refl _) ∙ bare_whole line c.if-line-size-eq13.false;
+    }

@@ -3,25 +3,15 @@
 -- What is left of the line falls. Assumes nothing.
 use mathlib.Core.Path.{◌≡◌, sym, ◌∙◌}
 use mathlib.Core.Bool.{true, false≢true}
-use Prim.Native.Nat.{◌+◌, ◌-◌, ◌<◌}
+use Prim.Native.Nat.{◌+◌, ◌<◌}
 use native.Mathlib.Omega.{arith}
 use lib.ListN.{length}
 use borrow.Author.Tests.{not-true, not-false}
 use Rattle.lines.specs.Read.{word_in}
 use Rattle.lines.proofs.Pieces.{line_none, line_worded}
-use Rattle.lines.proofs.Walk.{
-  part,
-  Reached,
-  walk_begins,
-  walk_bad,
-  walk_skips,
-  walk_turn,
-  walk_all,
-  walk_ends,
-}
-use borrow.Author.Rules.{rules}
+use Rattle.lines.proofs.Walk.{part, walk_begins, walk_bad, walk_skips, walk_turn, walk_all, walk_ends}
 use Rattle.lines.proofs.find_numbers.Goals as goal
-use Rattle.lines.proofs.find_numbers.Goals.{After-read_piece-part, After-struct_known-in-loop-at-1, At-loop-at, In-loop-at, Start}
+use Rattle.lines.proofs.find_numbers.Goals.{After-read_piece-part, Else-not-part, At-loop-at, In-loop-at, Start}
 
 abbrev start_of : At-loop-at → Start
 start_of h = (goal.at.At-loop-at h).Start
@@ -31,19 +21,25 @@ word_of : (h : At-loop-at) → 0 < length (word_in (start_of h).args.line.now)
 word_of h = omega (arith, (start_of h).requires, h.if-word-eq0.false)
 
 -- the piece has been read, and is a number or empty
-abbrev inside_of : After-struct_known-in-loop-at-1 → In-loop-at
-inside_of c = (goal.at.After-struct_known-in-loop-at-1 c).In-loop-at
+abbrev inside_of : Else-not-part → In-loop-at
+inside_of c = (goal.at.Else-not-part c).In-loop-at
 
-good_of : (c : After-struct_known-in-loop-at-1) → c.read_piece-part.result.good ≡ true
+good_of : (c : Else-not-part) → c.read_piece-part.result.good ≡ true
 good_of c = not-false _ c.if-not-part.false
 
-next_of : (c : After-struct_known-in-loop-at-1) → let head = (goal.at.In-loop-at (inside_of c)).At-loop-at in c.read_piece-part.result.next ≡ head.loop.at + 1 + length (part (start_of head).args.line.now head.loop.at)
+next_of : (c : Else-not-part) →
+    let head = (goal.at.In-loop-at (inside_of c)).At-loop-at in
+    c.read_piece-part.result.next
+    ≡ head.loop-at.at + 1 + length (part (start_of head).args.line.now head.loop-at.at)
 next_of c = c.read_piece-part.ensures.next_value (good_of c)
 
 pub returns-then-word-eq0 : goal.returns-then-word-eq0
 returns-then-word-eq0 c =
     let s = (goal.at.returns-then-word-eq0 c).Start in
-    record { good_value = sym (line_none s.args.line.now (omega (arith, s.requires, c.if-word-eq0.true))); count_value = λ e. absurd (false≢true e) }
+    record {
+      good_value = sym (line_none s.args.line.now (omega (arith, s.requires, c.if-word-eq0.true)));
+      count_value = λ e. absurd (false≢true e);
+    }
 
 pub loop-at-init : goal.loop-at-init
 loop-at-init c =
@@ -61,7 +57,7 @@ returns-then-not-part c =
     record { good_value = sym (line_worded line (word_of head) ∙ bad); count_value = λ e. absurd (false≢true e) }
 
 pub loop-at-smaller-then-at-part : goal.loop-at-smaller-then-at-part
-loop-at-smaller-then-at-part c = omega (arith, next_of (goal.at.loop-at-smaller-then-at-part c).After-struct_known-in-loop-at-1)
+loop-at-smaller-then-at-part c = omega (arith, next_of (goal.at.loop-at-smaller-then-at-part c).Else-not-part)
 
 pub loop-at-preserved-then-at-part : goal.loop-at-preserved-then-at-part
 loop-at-preserved-then-at-part c =
@@ -70,12 +66,12 @@ loop-at-preserved-then-at-part c =
     walk_turn (start_of head).args.line.now head.loop-at.at head.loop-at.count head.loop-at.invariant
     call.loop-at-test.true
     call.read_piece-part.result.next
-    (next_of (goal.at.loop-at-preserved-then-at-part c).After-struct_known-in-loop-at-1)
-    (sym call.read_piece-part.ensures.good_value ∙ good_of (goal.at.loop-at-preserved-then-at-part c).After-struct_known-in-loop-at-1)
+    (next_of (goal.at.loop-at-preserved-then-at-part c).Else-not-part)
+    (sym call.read_piece-part.ensures.good_value ∙ good_of (goal.at.loop-at-preserved-then-at-part c).Else-not-part)
     c.if-at-part.true
 
 pub loop-at-smaller : goal.loop-at-smaller
-loop-at-smaller c = omega (arith, next_of (goal.at.loop-at-smaller c).After-struct_known-in-loop-at-1)
+loop-at-smaller c = omega (arith, next_of (goal.at.loop-at-smaller c).Else-not-part)
 
 pub loop-at-preserved : goal.loop-at-preserved
 loop-at-preserved c =
@@ -84,8 +80,8 @@ loop-at-preserved c =
     walk_skips (start_of head).args.line.now head.loop-at.at head.loop-at.count head.loop-at.invariant
     call.loop-at-test.true
     call.read_piece-part.result.next
-    (next_of (goal.at.loop-at-preserved c).After-struct_known-in-loop-at-1)
-    (sym call.read_piece-part.ensures.good_value ∙ good_of (goal.at.loop-at-preserved c).After-struct_known-in-loop-at-1)
+    (next_of (goal.at.loop-at-preserved c).Else-not-part)
+    (sym call.read_piece-part.ensures.good_value ∙ good_of (goal.at.loop-at-preserved c).Else-not-part)
     c.if-at-part.false
 
 pub returns : goal.returns
@@ -95,4 +91,7 @@ returns c =
     let at = head.loop-at.at in
     let count = head.loop-at.count in
     let end = c.loop-at-test.false in
-    record { good_value = sym (line_worded line (word_of head) ∙ walk_ends line at count head.loop-at.invariant end); count_value = λ e. walk_all line at count head.loop-at.invariant end }
+    record {
+      good_value = sym (line_worded line (word_of head) ∙ walk_ends line at count head.loop-at.invariant end);
+      count_value = λ e. walk_all line at count head.loop-at.invariant end;
+    }

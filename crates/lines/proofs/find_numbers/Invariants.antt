@@ -1,25 +1,9 @@
 -- `lines::find_numbers` meets its contract: with no word it is no line. Else the loop goes from space to space, and
 -- `count` numbers are passed; the first piece that is no number decides, and at the end of the line all are numbers.
 -- What is left of the line falls. Assumes nothing.
-use mathlib.Core.Path.{◌≡◌, sym, ◌∙◌}
-use mathlib.Core.Bool.{true, false≢true}
-use Prim.Native.Nat.{◌+◌, ◌-◌, ◌<◌}
-use native.Mathlib.Omega.{arith}
+use Prim.Native.Nat.{◌-◌}
 use lib.ListN.{length}
-use borrow.Author.Tests.{not-true, not-false}
-use Rattle.lines.specs.Read.{word_in}
-use Rattle.lines.proofs.Pieces.{line_none, line_worded}
-use Rattle.lines.proofs.Walk.{
-  part,
-  Reached,
-  walk_begins,
-  walk_bad,
-  walk_skips,
-  walk_turn,
-  walk_all,
-  walk_ends,
-}
-use borrow.Author.Rules.{rules}
+use Rattle.lines.proofs.Walk.{Reached}
 use Rattle.lines.proofs.find_numbers.Given as goal
 
 abbrev pub invariant-loop-at : goal.invariant-loop-at

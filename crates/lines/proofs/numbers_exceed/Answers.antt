@@ -4,7 +4,7 @@
 -- nothing.
 use mathlib.Core.Path.{◌≡◌, ap, sym}
 use mathlib.Core.List.{List}
-use Prim.Native.Nat.{ℕ, ◌+◌, ◌≤◌, ◌-◌}
+use Prim.Native.Nat.{ℕ, ◌+◌, ◌≤◌}
 use native.Mathlib.Omega.{arith}
 use lib.ListN.{length, get_or}
 use borrow.Author.Tests.{lt-ltb, le-ltb}
@@ -22,11 +22,14 @@ abbrev numbers_of : At-loop-i → List ℕ
 numbers_of h = h.args.numbers.now
 
 -- a space and the digits are what the number takes
-more_of : (c : After-decimal-more) → 1 + c.decimal-more.result ≡ length (field (get_or (numbers_of (head_of c)) (head_of c).loop-i.i 0))
+more_of : (c : After-decimal-more) →
+    1 + c.decimal-more.result ≡ length (field (get_or (numbers_of (head_of c)) (head_of c).loop-i.i 0))
 unfolding field
 more_of c =
+    let told = c.decimal-more.ensures in
     let n = get_or (numbers_of (head_of c)) (head_of c).loop-i.i 0 in
-    omega (arith, decimal_counted n c.decimal-more.result c.decimal-more.new.out c.decimal-more.ensures)
+    let size = c.decimal-more.result in
+    omega (arith, decimal_counted n size c.decimal-more.new.out (told.in_bounds, (told.len, told.digits)))
 
 pub loop-i-init : goal.loop-i-init
 unfolding fields
@@ -36,7 +39,7 @@ pub overflow_add-more : goal.overflow_add-more
 unfolding field
 overflow_add-more c =
     let n = get_or (numbers_of (head_of c)) (head_of c).loop-i.i 0 in
-    let bits = c.shared_slice_known-in-loop-i-1.given (head_of c).loop-i.i in
+    let bits = c.type_inv.numbers (head_of c).loop-i.i in
     let bound : length (decimal n) ≤ 20 = decimal_20 n bits.fits in
     omega (arith, more_of c)
 
@@ -50,8 +53,9 @@ returns-then-left-more c =
 
 pub loop-i-preserved : goal.loop-i-preserved
 loop-i-preserved c =
-    let h = head_of (goal.at.loop-i-preserved c).After-decimal-more in
-    (search rules, omega (arith, more_of (goal.at.loop-i-preserved c).After-decimal-more, fields_longer (numbers_of h) h.loop-i.i))
+    let told = (goal.at.loop-i-preserved c).After-decimal-more in
+    let h = head_of told in
+    (search rules, omega (arith, more_of told, fields_longer (numbers_of h) h.loop-i.i))
 
 pub returns : goal.returns
 returns c =

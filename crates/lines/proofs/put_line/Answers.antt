@@ -6,7 +6,6 @@ use native.Mathlib.Omega.{arith}
 use lib.ListN.{length}
 use Rattle.lines.specs.Line.{put_reply, put_writes}
 use Rattle.lines.proofs.Put.{line_within, line_beyond}
-use borrow.Author.Rules.{rules}
 use Rattle.lines.proofs.put_line.Reads as Reads
 use Rattle.lines.proofs.put_line.Goals as goal
 
@@ -26,4 +25,4 @@ returns-then-text-at c =
 pub returns : goal.returns
 returns c =
     let put = c.put_within.ensures in
-    record { value = put.0; text_after = put.1 }
+    record { value = put.value; text_after = put.text_after }

@@ -30,5 +30,8 @@ returns c =
     let f = s.args in
     let out = f.out.now in
     let space = placed_one out f.at 32 (omega (arith, s.requires)) in
-    record { value = omega (arith, last.put_digits.ensures.value); out_after = last.put_digits.ensures.out_after
-          ∙ placed_then out (set out f.at 32) f.at (32 ∷ []) (decimal f.n) (f.at + 1) space refl s.requires }
+    record {
+      value = omega (arith, last.put_digits.ensures.value);
+      out_after = last.put_digits.ensures.out_after
+          ∙ placed_then out (set out f.at 32) f.at (32 ∷ []) (decimal f.n) (f.at + 1) space refl s.requires;
+    }

@@ -1,7 +1,7 @@
 -- `lines::put_numbers` meets its contract: after i turns the first i numbers stand at the place, and `end` is behind
 -- them. What is left of the numbers falls. Assumes nothing.
 use mathlib.Core.Path.{◌≡◌, ap, sym, ◌∙◌}
-use Prim.Native.Nat.{ℕ, ◌+◌, ◌≤◌, ◌-◌}
+use Prim.Native.Nat.{ℕ, ◌+◌, ◌≤◌}
 use native.Mathlib.Omega.{arith}
 use lib.ListN.{length, get_or}
 use Rattle.lines.specs.Line.{field, fields, placed}
@@ -23,7 +23,9 @@ long_of c =
     (omega (arith, fields_more numbers c.loop-i.i (length numbers) c.loop-i.invariant.0))
 
 -- there is room for one number more
-room_of : (c : In-loop-i) → let f = (start_of (goal.at.In-loop-i c).At-loop-i).args in f.at + length (fields f.numbers.now (c.loop-i.i + 1)) ≤ length f.out.now
+room_of : (c : In-loop-i) →
+    let f = (start_of (goal.at.In-loop-i c).At-loop-i).args in
+    f.at + length (fields f.numbers.now (c.loop-i.i + 1)) ≤ length f.out.now
 room_of c =
     let numbers = (start_of (goal.at.In-loop-i c).At-loop-i).args.numbers.now in
     omega (arith, fields_more numbers (c.loop-i.i + 1) (length numbers) (search rules))
@@ -63,4 +65,7 @@ pub returns : goal.returns
 returns c =
     let f = c.args in
     let whole : c.loop-i.i ≡ length f.numbers.now = omega arith in
-    record { value = c.loop-i.invariant.1.0 ∙ ap (λ (k : ℕ). f.at + length (fields f.numbers.now k)) whole; out_after = c.loop-i.invariant.1.1 ∙ ap (λ (k : ℕ). placed f.out.now f.at (fields f.numbers.now k)) whole }
+    record {
+      value = c.loop-i.invariant.1.0 ∙ ap (λ (k : ℕ). f.at + length (fields f.numbers.now k)) whole;
+      out_after = c.loop-i.invariant.1.1 ∙ ap (λ (k : ℕ). placed f.out.now f.at (fields f.numbers.now k)) whole;
+    }

@@ -9,7 +9,6 @@ use Rattle.lines.specs.declared.Written.{Written}
 use Rattle.lines.specs.Line.{line_reply, line_writes, put_reply, put_writes}
 use Rattle.lines.proofs.Placed.{rest_whole, rest_none}
 use Rattle.lines.proofs.Put.{line_within}
-use borrow.Author.Rules.{rules}
 use Rattle.lines.proofs.put_within.Goals as goal
 use Rattle.lines.proofs.put_within.Goals.{After-write_line, Start}
 
@@ -19,7 +18,9 @@ start_of c = (goal.at.After-write_line c).Start
 abbrev text_of : After-write_line → List ℕ
 text_of c = (start_of c).args.text.now
 
-is : (c : After-write_line) → let f = (start_of c).args in c.write_line.result.size ≡ (line_reply f.word.now f.numbers.now (length (text_of c) - f.at)).size
+is : (c : After-write_line) →
+    let f = (start_of c).args in
+    c.write_line.result.size ≡ (line_reply f.word.now f.numbers.now (length (text_of c) - f.at)).size
 is c =
     let f = (start_of c).args in
     ap (λ (w : Written). w.size) c.write_line.ensures.value
@@ -42,7 +43,10 @@ returns c =
     let f = (start_of last).args in
     let at = f.at in
     let text = text_of last in
-    record { value = ap (λ (k : ℕ). at + k) (is last); text_after = ap (λ (ys : List ℕ). take at text ++ ys)
+    record {
+      value = ap (λ (k : ℕ). at + k) (is last);
+      text_after = ap (λ (ys : List ℕ). take at text ++ ys)
           (rest_none text last.write_line.new.out at
           ∙ last.write_line.ensures.out_after
-          ∙ ap (line_writes f.word.now f.numbers.now) (rest_whole text at)) }
+          ∙ ap (line_writes f.word.now f.numbers.now) (rest_whole text at));
+    }

@@ -3,12 +3,8 @@
 -- follows makes it no smaller. What is left of the line falls. Assumes nothing.
 use mathlib.Core.Path.{◌≡◌, sym, subst, ◌∙◌}
 use mathlib.Core.Bool.{true, false≢true}
-use mathlib.Core.List.{List, []}
-use Prim.Native.Nat.{ℕ, ◌+◌, ◌-◌}
-use lib.ListN.{length, drop}
+use Prim.Native.Nat.{◌+◌}
 use borrow.Author.Tests.{not-true, not-false}
-use Rattle.lines.specs.Line.{read_on}
-use Rattle.lines.specs.Read.{piece, is_small}
 use Rattle.lines.proofs.Pieces.{piece_stops, piece_end}
 use Rattle.lines.proofs.Digits.{
   ReadTo,
@@ -19,21 +15,11 @@ use Rattle.lines.proofs.Digits.{
   read_next,
   read_value,
 }
-use borrow.Author.Rules.{rules}
 use Rattle.lines.proofs.read_piece.Goals as goal
 use Rattle.lines.proofs.read_piece.Goals.{After-add_digit-more, At-loop-i, In-loop-i, Start}
 
 abbrev start_of : At-loop-i → Start
 start_of h = (goal.at.At-loop-i h).Start
-
--- where the piece ends it has been read
-done : (text : List ℕ) (from i value : ℕ) → ReadTo text from i value → piece (drop i text) ≡ [] →
-    (true ≡ is_small (piece (drop from text))) × ((true ≡ true → i ≡ from + length (piece (drop from text)))
-    × (true ≡ true → value ≡ read_on 0 (piece (drop from text))))
-done text from i value r e = (
-  sym (read_good text from i value r e),
-  (λ t. read_next text from i value r e, λ t. read_value text from i value r e),
-)
 
 pub loop-i-init : goal.loop-i-init
 loop-i-init c = read_begins c.args.line.now c.args.from c.requires
@@ -44,8 +30,14 @@ returns-then-byte-eq32 c =
     let f = (start_of head).args in
     let line = f.line.now in
     let i = head.loop-i.i in
-    done line f.from i head.loop-i.value head.loop-i.invariant
-    (piece_stops line i c.loop-i-test.true c.if-byte-eq32.true)
+    let value = head.loop-i.value in
+    let r = head.loop-i.invariant in
+    let e = piece_stops line i c.loop-i-test.true c.if-byte-eq32.true in
+    record {
+      good_value = sym (read_good line f.from i value r e);
+      next_value = λ t. read_next line f.from i value r e;
+      value_value = λ t. read_value line f.from i value r e;
+    }
 
 pub returns-then-not-more : goal.returns-then-not-more
 returns-then-not-more c =
@@ -76,5 +68,13 @@ pub returns : goal.returns
 returns c =
     let head = (goal.at.returns c).At-loop-i in
     let f = (start_of head).args in
-    done f.line.now f.from head.loop-i.i head.loop-i.value head.loop-i.invariant
-    (piece_end f.line.now head.loop-i.i c.loop-i-test.false)
+    let line = f.line.now in
+    let i = head.loop-i.i in
+    let value = head.loop-i.value in
+    let r = head.loop-i.invariant in
+    let e = piece_end line i c.loop-i-test.false in
+    record {
+      good_value = sym (read_good line f.from i value r e);
+      next_value = λ t. read_next line f.from i value r e;
+      value_value = λ t. read_value line f.from i value r e;
+    }

@@ -1,25 +1,9 @@
 -- `lines::read_piece` meets its contract: the piece from a place on is what is read so far and the piece from place i
 -- on, which ends at a space or with the line. A byte that is no digit, or brings the value to 2⁶⁴, decides: what
 -- follows makes it no smaller. What is left of the line falls. Assumes nothing.
-use mathlib.Core.Path.{◌≡◌, sym, subst, ◌∙◌}
-use mathlib.Core.Bool.{true, false≢true}
-use mathlib.Core.List.{List, []}
-use Prim.Native.Nat.{ℕ, ◌+◌, ◌-◌}
-use lib.ListN.{length, drop}
-use borrow.Author.Tests.{not-true, not-false}
-use Rattle.lines.specs.Line.{read_on}
-use Rattle.lines.specs.Read.{piece, is_small}
-use Rattle.lines.proofs.Pieces.{piece_stops, piece_end}
-use Rattle.lines.proofs.Digits.{
-  ReadTo,
-  read_begins,
-  read_bad,
-  read_turn,
-  read_good,
-  read_next,
-  read_value,
-}
-use borrow.Author.Rules.{rules}
+use Prim.Native.Nat.{◌-◌}
+use lib.ListN.{length}
+use Rattle.lines.proofs.Digits.{ReadTo}
 use Rattle.lines.proofs.read_piece.Given as goal
 
 abbrev pub invariant-loop-i : goal.invariant-loop-i

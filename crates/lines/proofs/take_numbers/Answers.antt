@@ -4,7 +4,7 @@
 use mathlib.Core.Path.{◌≡◌, sym, ap, ◌∙◌}
 use mathlib.Core.Bool.{true}
 use mathlib.Core.List.{List, [], ◌∷◌, ◌++◌}
-use Prim.Native.Nat.{ℕ, ◌+◌, ◌-◌, ◌<◌}
+use Prim.Native.Nat.{ℕ, ◌+◌, ◌<◌}
 use native.Mathlib.Omega.{arith}
 use native.Mathlib.Numerals.{add-one}
 use lib.ListN.{length, get_or, take}
@@ -13,18 +13,7 @@ use Rattle.lines.specs.Line.{placed}
 use Rattle.lines.specs.Read.{is_small, numbers_in}
 use Rattle.lines.proofs.Placed.{placed_none, placed_next, placed_length}
 use Rattle.lines.proofs.Pieces.{line_numbers}
-use Rattle.lines.proofs.Walk.{
-  part,
-  Reached,
-  walk_begins,
-  walk_fine,
-  walk_skips,
-  walk_one,
-  walk_value,
-  walk_turn,
-  walk_all,
-}
-use borrow.Author.Rules.{rules}
+use Rattle.lines.proofs.Walk.{part, walk_begins, walk_fine, walk_skips, walk_one, walk_value, walk_turn, walk_all}
 use Rattle.lines.proofs.take_numbers.Goals as goal
 use Rattle.lines.proofs.take_numbers.Goals.{After-read_piece-part, At-loop-at, In-loop-at, Start, Then-at-part}
 
@@ -51,11 +40,17 @@ small_of c =
     walk_fine (line_of_lem h) h.loop-at.at h.loop-at.count h.loop-at.invariant.0 c.loop-at-test.true
     (line_numbers (line_of_lem h) (start_of h).requires.line_value)
 
-next_of : (c : After-read_piece-part) → let h = (goal.at.After-read_piece-part c).At-loop-at in c.read_piece-part.result.next ≡ h.loop-at.at + 1 + length (part (line_of_lem h) h.loop-at.at)
-next_of c = c.read_piece-part.ensures.next_value (c.read_piece-part.ensures.good_value ∙ small_of (goal.at.After-read_piece-part c).In-loop-at)
+next_of : (c : After-read_piece-part) →
+    let h = (goal.at.After-read_piece-part c).At-loop-at in
+    c.read_piece-part.result.next ≡ h.loop-at.at + 1 + length (part (line_of_lem h) h.loop-at.at)
+next_of c =
+    let told = c.read_piece-part.ensures in
+    told.next_value (told.good_value ∙ small_of (goal.at.After-read_piece-part c).In-loop-at)
 
 -- where there is a number, it has its place
-one_of : (c : Then-at-part) → let h = (goal.at.Then-at-part c).At-loop-at in h.loop-at.count < length (numbers_in (line_of_lem h))
+one_of : (c : Then-at-part) →
+    let h = (goal.at.Then-at-part c).At-loop-at in
+    h.loop-at.count < length (numbers_in (line_of_lem h))
 one_of c =
     let call = (goal.at.Then-at-part c).After-read_piece-part in
     let h = (goal.at.After-read_piece-part call).At-loop-at in

@@ -7,7 +7,6 @@ use lib.ListN.{length}
 use borrow.Author.Tests.{lt-ltb, le-ltb}
 use Rattle.lines.specs.Line.{too_short}
 use Rattle.lines.proofs.Lines.{fields_most, line_length, line_short}
-use borrow.Author.Rules.{rules}
 use Rattle.lines.proofs.too_short.Goals as goal
 
 pub returns-then-room-word : goal.returns-then-room-word
@@ -21,7 +20,7 @@ unfolding too_short
 returns-then-numbers-left c =
     let f = c.args in
     let numbers = f.numbers.now in
-    let most = fields_most numbers (λ i. (c.shared_slice_known-2-1.given i).fits) (length numbers) in
+    let most = fields_most numbers (λ i. (c.type_inv.numbers i).fits) (length numbers) in
     sym (le-ltb f.room _ (omega (arith, line_length f.word.now numbers)))
 
 pub returns : goal.returns

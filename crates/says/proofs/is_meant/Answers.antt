@@ -3,29 +3,21 @@
 use mathlib.Core.Path.{◌≡◌, refl, sym, ◌∙◌}
 use mathlib.Core.Bool.{true}
 use Prim.Native.Nat.{◌+◌}
-use borrow.Author.Tests.{not-true, not-false}
 use Rattle.says.specs.Say.{within, iteration_in, fits_step, is_meant}
 use Rattle.says.proofs.Laws.{fits_none}
-use borrow.Author.Rules.{rules}
 use Rattle.says.proofs.is_meant.Goals as goal
-use Rattle.says.proofs.is_meant.Goals.{After-is_within, Else-not-fits_step, Else-not-is_within, Else-not-is_within-2, Start}
-
-abbrev start_of : Else-not-fits_step → Start
-start_of c = (goal.at.Else-not-fits_step c).Start
+use Rattle.says.proofs.is_meant.Goals.{Else-not-fits_step, Else-not-is_within, Else-not-is_within-2}
 
 -- where the tests so far have passed
-fits_of : (c : Else-not-fits_step) → fits_step (start_of c).args.n (start_of c).args.numbers.now ≡ true
-fits_of c = sym c.fits_step.ensures ∙ not-false _ c.if-not-fits_step.false
+fits_of : (c : Else-not-fits_step) → fits_step c.args.n c.args.numbers.now ≡ true
+fits_of c = sym c.fits_step.ensures ∙ c.if-not-fits_step.false
 
-abbrev fitting_of : After-is_within → Else-not-fits_step
-fitting_of c = (goal.at.After-is_within c).Else-not-fits_step
-
-iteration_of : (c : Else-not-is_within) → within ((start_of (fitting_of (goal.at.Else-not-is_within c).After-is_within)).args.t + 1) (iteration_in (start_of (fitting_of (goal.at.Else-not-is_within c).After-is_within)).args.numbers.now) ≡ true
-iteration_of c = sym c.is_within.ensures ∙ not-false _ c.if-not-is_within.false
+iteration_of : (c : Else-not-is_within) → within (c.args.t + 1) (iteration_in c.args.numbers.now) ≡ true
+iteration_of c = sym c.is_within.ensures ∙ c.if-not-is_within.false
 
 pub returns-then-not-fits_step : goal.returns-then-not-fits_step
 unfolding is_meant
-returns-then-not-fits_step c = rw (sym c.fits_step.ensures ∙ not-true _ c.if-not-fits_step.true) refl
+returns-then-not-fits_step c = rw (sym c.fits_step.ensures ∙ c.if-not-fits_step.true) refl
 
 pub returns-then-numbers-lt5 : goal.returns-then-numbers-lt5
 unfolding is_meant
@@ -34,20 +26,21 @@ returns-then-numbers-lt5 c = rw (fits_none c.args.n _ c.if-numbers-lt5.true) ref
 pub returns-then-not-is_within : goal.returns-then-not-is_within
 unfolding is_meant
 returns-then-not-is_within c =
-    let no = sym c.is_within.ensures ∙ not-true _ c.if-not-is_within.true in
-    rw (fits_of (fitting_of (goal.at.returns-then-not-is_within c).After-is_within), no) refl
+    let no = sym c.is_within.ensures ∙ c.if-not-is_within.true in
+    rw (fits_of (goal.at.returns-then-not-is_within c).Else-not-fits_step, no) refl
 
 pub returns-then-not-is_within-2 : goal.returns-then-not-is_within-2
 unfolding is_meant
 returns-then-not-is_within-2 c =
     let passed = (goal.at.returns-then-not-is_within-2 c).Else-not-is_within in
-    let no = sym c.is_within-2.ensures ∙ not-true _ c.if-not-is_within-2.true in
-    rw (fits_of (fitting_of (goal.at.Else-not-is_within passed).After-is_within), iteration_of passed, no) refl
+    let no = sym c.is_within-2.ensures ∙ c.if-not-is_within-2.true in
+    rw (fits_of (goal.at.Else-not-is_within passed).Else-not-fits_step, iteration_of passed, no) refl
 
 pub returns : goal.returns
 unfolding is_meant
 returns c =
     let sender = (goal.at.returns c).Else-not-is_within-2 in
     let passed = (goal.at.Else-not-is_within-2 sender).Else-not-is_within in
-    let yes = sym sender.is_within-2.ensures ∙ not-false _ sender.if-not-is_within-2.false in
-    c.is_within-3.ensures ∙ rw (fits_of (fitting_of (goal.at.Else-not-is_within passed).After-is_within), iteration_of passed, yes) refl
+    let yes = sym sender.is_within-2.ensures ∙ sender.if-not-is_within-2.false in
+    c.is_within-3.ensures
+    ∙ rw (fits_of (goal.at.Else-not-is_within passed).Else-not-fits_step, iteration_of passed, yes) refl

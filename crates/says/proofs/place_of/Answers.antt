@@ -4,25 +4,21 @@ use mathlib.Core.Path.{◌≡◌, refl, sym, ap, ◌∙◌}
 use mathlib.Core.Bool.{true, false}
 use Prim.Native.Nat.{ℕ}
 use native.Mathlib.Omega.{arith}
-use borrow.Author.Tests.{eq-eqb, ne_eqb, not-true, not-false}
+use borrow.Author.Tests.{eq-eqb, ne_eqb}
 use Rattle.sizes.specs.Sizes.{size_refusal}
 use Rattle.sizes.proofs.Laws.{passes_sized}
 use Rattle.says.specs.Say.{is_meant, place_reply}
 use Rattle.says.proofs.Laws.{meant_of}
-use borrow.Author.Rules.{rules}
 use Rattle.says.proofs.place_of.Reads as Reads
 use Rattle.says.proofs.place_of.Goals as goal
-use Rattle.says.proofs.place_of.Goals.{After-size_refusal-size, Else-not-is_meant, Else-size-ne0, Start}
-
-abbrev start_of : After-size_refusal-size → Start
-start_of c = (goal.at.After-size_refusal-size c).Start
+use Rattle.says.proofs.place_of.Goals.{Else-not-is_meant, Else-size-ne0}
 
 -- where the sizes pass, and where the numbers pass too
-size_of : (c : Else-size-ne0) → size_refusal (start_of (goal.at.Else-size-ne0 c).After-size_refusal-size).args.n (start_of (goal.at.Else-size-ne0 c).After-size_refusal-size).args.t ≡ 0
+size_of : (c : Else-size-ne0) → size_refusal c.args.n c.args.t ≡ 0
 size_of c = sym c.size_refusal-size.ensures ∙ c.if-size-ne0.false
 
-meaning_of : (c : Else-not-is_meant) → is_meant (start_of (goal.at.Else-not-is_meant c).After-size_refusal-size).args.n (start_of (goal.at.Else-not-is_meant c).After-size_refusal-size).args.t (start_of (goal.at.Else-not-is_meant c).After-size_refusal-size).args.numbers.now ≡ true
-meaning_of c = sym c.is_meant.ensures ∙ not-false _ c.if-not-is_meant.false
+meaning_of : (c : Else-not-is_meant) → is_meant c.args.n c.args.t c.args.numbers.now ≡ true
+meaning_of c = sym c.is_meant.ensures ∙ c.if-not-is_meant.false
 
 -- the contract admits one reply
 pub only_one : (κs : _) (a : _) (r s : _) (x y : _) → Reads.Post κs a r x → Reads.Post κs a s y → r ≡ s
@@ -38,7 +34,7 @@ returns-then-size-ne0 c =
 pub returns-then-not-is_meant : goal.returns-then-not-is_meant
 unfolding place_reply
 returns-then-not-is_meant c =
-    let no = sym c.is_meant.ensures ∙ not-true _ c.if-not-is_meant.true in
+    let no = sym c.is_meant.ensures ∙ c.if-not-is_meant.true in
     rw (eq-eqb _ 0 (size_of (goal.at.returns-then-not-is_meant c).Else-size-ne0), no) refl
 
 pub say_at-at-requires : goal.say_at-at-requires

@@ -7,7 +7,6 @@ use Rattle.sizes.proofs.Laws.{table_le}
 use Rattle.listing.proofs.Behind.{begins_inside, begins_most}
 use Rattle.says.specs.Say.{say_at}
 use Rattle.says.proofs.Places.{said_inside}
-use borrow.Author.Rules.{rules}
 use Rattle.says.proofs.say_at.Goals as goal
 use Rattle.says.proofs.say_at.Goals.{After-place_said-place, After-table_begins, Start}
 

@@ -3,7 +3,6 @@
 use mathlib.Core.Path.{◌≡◌, refl, sym, ◌∙◌}
 use mathlib.Core.List.{[], ◌∷◌}
 use native.Mathlib.Omega.{arith}
-use borrow.Author.Rules.{rules}
 use borrow.Author.Tests.{eq-eqb, ne_eqb}
 use Rattle.lines.proofs.Placed.{placed_none}
 use Rattle.listing.specs.Listing.{refused_word}
@@ -11,7 +10,6 @@ use Rattle.says.specs.Told.{told_text}
 use Rattle.says.proofs.Faults.{text_given, text_written, line_told, line_kept}
 use Rattle.says.proofs.tell.Reads as Reads
 use Rattle.says.proofs.tell.Goals as goal
-use Rattle.says.proofs.tell.Goals.{After-write_line-arg-1, Else-fault-eq0}
 
 -- the contract admits one reply, and one last contents of the slice
 pub only_one : (κs : _) (a : _) (r s : _) (x y : _) → Reads.Post κs a r x → Reads.Post κs a s y →
@@ -21,23 +19,27 @@ only_one κs a r s x y p q = (p.0 ∙ sym q.0, p.1 ∙ sym q.1)
 pub returns-then-refusal-ne0 : goal.returns-then-refusal-ne0
 unfolding told_text
 returns-then-refusal-ne0 c =
-    let branch = (goal.at.returns-then-refusal-ne0 c).After-write_line-arg-1 in
-    let a = branch.args in
+    let a = c.args in
     let e = c.write_line.ensures in
-    rw (ne_eqb a.refusal 0 branch.if-refusal-ne0.true)
-    (e.0 ∙ line_told refused_word (a.refusal ∷ []) _, e.1 ∙ line_kept refused_word (a.refusal ∷ []) _)
+    rw (ne_eqb a.refusal 0 c.if-refusal-ne0.true)
+    (record {
+      value = e.value ∙ line_told refused_word (a.refusal ∷ []) _;
+      out_after = e.out_after ∙ line_kept refused_word (a.refusal ∷ []) _;
+    })
 
 pub returns-then-fault-eq0 : goal.returns-then-fault-eq0
 unfolding told_text
 returns-then-fault-eq0 c =
     let a = c.args in
     rw (eq-eqb a.refusal 0 c.if-refusal-ne0.false, eq-eqb a.fault 0 c.if-fault-eq0.true)
-    (text_given [] _ 0 refl (omega arith), placed_none a.out.now 0 ∙ text_written [] _ (omega arith))
+    (record {
+      value = text_given [] _ 0 refl (omega arith);
+      out_after = placed_none a.out.now 0 ∙ text_written [] _ (omega arith);
+    })
 
 pub returns : goal.returns
 unfolding told_text
 returns c =
-    let branch = (goal.at.returns c).Else-fault-eq0 in
-    let a = branch.args in
-    rw (eq-eqb a.refusal 0 branch.if-refusal-ne0.false, ne_eqb a.fault 0 branch.if-fault-eq0.false)
+    let a = c.args in
+    rw (eq-eqb a.refusal 0 c.if-refusal-ne0.false, ne_eqb a.fault 0 c.if-fault-eq0.false)
     c.tell_fault.ensures

@@ -1,5 +1,5 @@
 -- `says::tell_fault` meets its contract: each arm of the match hands on the sentence of its number. Assumes nothing.
-use borrow.Author.Rules.{rules}
+use native.Mathlib.Omega.{arith}
 use borrow.Author.Tests.{ne_eqb}
 use Rattle.says.specs.Told.{sentence}
 use Rattle.says.proofs.tell_fault.Goals as goal
@@ -27,11 +27,10 @@ returns-in-5 c = rw c.in-5.is c.write_fault-in-5.ensures
 pub returns-in_default : goal.returns-in_default
 unfolding sentence
 returns-in_default c =
-    let none = c.in_default.in_default-own.rest in
     rw (
-      ne_eqb _ 1 none.0.0.0.0.1,
-      ne_eqb _ 2 none.0.0.0.1,
-      ne_eqb _ 3 none.0.0.1,
-      ne_eqb _ 4 none.0.1,
-      ne_eqb _ 5 none.1,
+      ne_eqb c.args.fault 1 (omega arith),
+      ne_eqb c.args.fault 2 (omega arith),
+      ne_eqb c.args.fault 3 (omega arith),
+      ne_eqb c.args.fault 4 (omega arith),
+      ne_eqb c.args.fault 5 (omega arith),
     ) c.write_fault-in_default.ensures

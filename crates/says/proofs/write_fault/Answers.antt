@@ -3,9 +3,9 @@
 -- them; a slice that is too short stays as it is. Assumes nothing.
 use mathlib.Core.Path.{◌≡◌, refl, ap, ◌∙◌}
 use mathlib.Core.List.{List, ◌++◌}
-use Prim.Native.Nat.{ℕ, ◌+◌, ◌-◌, ◌≤◌, ◌<◌}
+use Prim.Native.Nat.{ℕ, ◌+◌, ◌-◌, ◌≤◌, ◌<◌, min}
 use native.Mathlib.Omega.{arith}
-use lib.ListN.{length, take, length-append, length-drop}
+use lib.ListN.{length, take, drop, length-append, length-drop}
 use Rattle.lines.proofs.Placed.{rest_whole}
 use Rattle.says.specs.Told.{fault_line}
 use Rattle.says.proofs.Faults.{
@@ -18,7 +18,6 @@ use Rattle.says.proofs.Faults.{
   text_leaves,
   parts_written,
 }
-use borrow.Author.Rules.{rules}
 use Rattle.says.proofs.write_fault.Goals as goal
 use Rattle.says.proofs.write_fault.Goals.{After-copy, After-write_line-end, Else-out-size, Start}
 
@@ -51,10 +50,10 @@ long_of : (c : After-write_line-end) → end_of c ≡ length (apart_of c)
 long_of c = omega (arith, size_of c, ap length (text_of c))
 
 -- the whole line
-abbrev line_of_lem : After-write_line-end → List ℕ
-line_of_lem c = fault_line (start_of c).args.line (start_of c).args.said.now
+abbrev line_of : After-write_line-end → List ℕ
+line_of c = fault_line (start_of c).args.line (start_of c).args.said.now
 
-whole_of : (c : After-write_line-end) → end_of c + length (start_of c).args.said.now ≡ length (line_of_lem c)
+whole_of : (c : After-write_line-end) → end_of c + length (start_of c).args.said.now ≡ length (line_of c)
 unfolding fault_line
 whole_of c = omega (arith, size_of c, length-append (front_of c) (start_of c).args.said.now)
 
@@ -69,9 +68,9 @@ overflow_add-size c =
 pub returns-then-out-size : goal.returns-then-out-size
 returns-then-out-size c =
     let w = (goal.at.returns-then-out-size c).After-write_line-end in
-    let short : length (start_of w).args.out.now < length (line_of_lem w) =
+    let short : length (start_of w).args.out.now < length (line_of w) =
     omega (arith, whole_of w, c.if-out-size.true) in
-    record { value = text_refused (line_of_lem w) _ short; out_after = text_leaves (line_of_lem w) _ short }
+    record { value = text_refused (line_of w) _ short; out_after = text_leaves (line_of w) _ short }
 
 pub slice_bounds-start-end : goal.slice_bounds-start-end
 slice_bounds-start-end c =
@@ -81,26 +80,12 @@ slice_bounds-start-end c =
 pub slice_bounds-copy-end : goal.slice_bounds-copy-end
 slice_bounds-copy-end c = long_of (goal.at.slice_bounds-copy-end c).After-write_line-end
 
-pub copy-requires : goal.copy-requires
-copy-requires c =
-    let else = (goal.at.copy-requires c).Else-out-size in
-    let w = (goal.at.Else-out-size else).After-write_line-end in
-    omega (arith, long_of w, whole_of w, else.if-out-size.false)
-
-pub copy-requires-2 : goal.copy-requires-2
-copy-requires-2 c =
-    let copied = (goal.at.copy-requires-2 c).After-copy in
-    let else = (goal.at.After-copy copied).Else-out-size in
-    let w = (goal.at.Else-out-size else).After-write_line-end in
-    let one = copied.copy.new.out in
-    omega (
-      arith,
-      ap length (rest_whole one (end_of w)),
-      length-drop (end_of w) one,
-      copied.copy.auto.out,
-      whole_of w,
-      else.if-out-size.false,
-    )
+-- a copy for which there is room is a whole one
+whole_copy : (bytes out new : List ℕ) (n : ℕ) → n ≡ min (length bytes) (length out) → length bytes ≤ length out →
+    new ≡ take n bytes ++ drop n out → new ≡ take (length bytes) bytes ++ drop (length bytes) out
+whole_copy bytes out new n e room h =
+    let all : n ≡ length bytes = omega arith in
+    h ∙ ap (λ (k : ℕ). take k bytes ++ drop k out) all
 
 pub returns : goal.returns
 unfolding fault_line
@@ -109,6 +94,22 @@ returns c =
     let else = (goal.at.After-copy copied).Else-out-size in
     let w = (goal.at.Else-out-size else).After-write_line-end in
     let s = (start_of w).args in
-    record { value = text_given (line_of_lem w) _ _ (whole_of w) else.if-out-size.false; out_after = parts_written s.out.now copied.copy.new.out _ (apart_of w) s.said.now (line_of_lem w) (end_of w)
-          (long_of w) (ap (λ (f : List ℕ). f ++ s.said.now) (text_of w)) (omega (arith, whole_of w, else.if-out-size.false))
-          copied.copy.ensures.out_after c.copy-2.ensures.out_after }
+    let one = copied.copy.new.out in
+    let front : length (apart_of w) ≤ length s.out.now =
+    omega (arith, long_of w, whole_of w, else.if-out-size.false) in
+    let rest : length s.said.now ≤ length (take (length one - end_of w) (drop (end_of w) one)) =
+    omega (
+      arith,
+      ap length (rest_whole one (end_of w)),
+      length-drop (end_of w) one,
+      copied.copy.auto.out,
+      whole_of w,
+      else.if-out-size.false,
+    ) in
+    record {
+      value = text_given (line_of w) _ _ (whole_of w) else.if-out-size.false;
+      out_after = parts_written s.out.now one _ (apart_of w) s.said.now (line_of w) (end_of w) (long_of w)
+          (ap (λ (f : List ℕ). f ++ s.said.now) (text_of w)) (omega (arith, whole_of w, else.if-out-size.false))
+          (whole_copy _ _ _ _ copied.copy.ensures.value front copied.copy.ensures.out_after)
+          (whole_copy _ _ _ _ c.copy-2.ensures.value rest c.copy-2.ensures.out_after);
+    }

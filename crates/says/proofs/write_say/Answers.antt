@@ -7,10 +7,9 @@ use native.Mathlib.Omega.{arith}
 use borrow.Author.Tests.{lt-ltb, le-ltb}
 use Rattle.sizes.proofs.Laws.{inside, outside_low, outside_high, square_le, cube_le}
 use Rattle.says.specs.Say.{later_numbers, say_numbers, say_reply, say_writes}
-use borrow.Author.Rules.{rules}
 use Rattle.says.proofs.write_say.Reads as Reads
 use Rattle.says.proofs.write_say.Goals as goal
-use Rattle.says.proofs.write_say.Goals.{After-write_line-arg-1, After-write_line-arg-2-1, Else-n-gt13, Start}
+use Rattle.says.proofs.write_say.Goals.{Else-n-gt13, Start}
 
 abbrev start_of : Else-n-gt13 → Start
 start_of c = (goal.at.Else-n-gt13 c).Start
@@ -29,11 +28,11 @@ only_one κs a r s x y p q = (p.0 ∙ sym q.0, p.1 ∙ sym q.1)
 
 pub returns-then-n-lt1 : goal.returns-then-n-lt1
 unfolding say_reply say_writes
-returns-then-n-lt1 c = rw (outside_low _ c.if-n-lt1.true) (refl, refl)
+returns-then-n-lt1 c = rw (outside_low _ c.if-n-lt1.true) (record { value = refl; out_after = refl })
 
 pub returns-then-n-gt13 : goal.returns-then-n-gt13
 unfolding say_reply say_writes
-returns-then-n-gt13 c = rw (outside_high _ c.if-n-gt13.true) (refl, refl)
+returns-then-n-gt13 c = rw (outside_high _ c.if-n-gt13.true) (record { value = refl; out_after = refl })
 
 pub overflow_mul-square : goal.overflow_mul-square
 overflow_mul-square c = omega (arith, square_le (high_of c))
@@ -51,15 +50,17 @@ overflow_add-receiver c =
 pub returns-then-p-square : goal.returns-then-p-square
 unfolding say_reply say_writes say_numbers
 returns-then-p-square c =
-    let branch = (goal.at.returns-then-p-square c).After-write_line-arg-1 in
-    rw (inside _ (low_of (goal.at.After-write_line-arg-1 branch).Else-n-gt13) (high_of (goal.at.After-write_line-arg-1 branch).Else-n-gt13), lt-ltb _ _ branch.if-p-square.true)
+    let most = (goal.at.returns-then-p-square c).Else-n-gt13 in
+    rw (inside _ (low_of most) (high_of most), lt-ltb _ _ c.if-p-square.true)
     c.write_line.ensures
 
 pub overflow_mul-step : goal.overflow_mul-step
 overflow_mul-step c = omega (arith, cube_le (high_of (goal.at.overflow_mul-step c).Else-n-gt13))
 
 pub nonzero_div-step : goal.nonzero_div-step
-nonzero_div-step c = mul-pos (mul-pos (low_of (goal.at.nonzero_div-step c).Else-n-gt13) (low_of (goal.at.nonzero_div-step c).Else-n-gt13)) (low_of (goal.at.nonzero_div-step c).Else-n-gt13)
+nonzero_div-step c =
+    let low = low_of (goal.at.nonzero_div-step c).Else-n-gt13 in
+    mul-pos (mul-pos low low) low
 
 pub overflow_add-step : goal.overflow_add-step
 overflow_add-step c =
@@ -67,7 +68,9 @@ overflow_add-step c =
     omega (arith, div-le_self (a.place - a.n * a.n) (a.n * a.n * a.n))
 
 pub nonzero_div-sender-2 : goal.nonzero_div-sender-2
-nonzero_div-sender-2 c = mul-pos (low_of (goal.at.nonzero_div-sender-2 c).Else-n-gt13) (low_of (goal.at.nonzero_div-sender-2 c).Else-n-gt13)
+nonzero_div-sender-2 c =
+    let low = low_of (goal.at.nonzero_div-sender-2 c).Else-n-gt13 in
+    mul-pos low low
 
 pub overflow_add-sender-2 : goal.overflow_add-sender-2
 overflow_add-sender-2 c =
@@ -89,6 +92,6 @@ overflow_add-leader c =
 pub returns : goal.returns
 unfolding say_reply say_writes say_numbers later_numbers
 returns c =
-    let branch = (goal.at.returns c).After-write_line-arg-2-1 in
-    rw (inside _ (low_of (goal.at.After-write_line-arg-2-1 branch).Else-n-gt13) (high_of (goal.at.After-write_line-arg-2-1 branch).Else-n-gt13), le-ltb _ _ branch.if-p-square.false)
+    let most = (goal.at.returns c).Else-n-gt13 in
+    rw (inside _ (low_of most) (high_of most), le-ltb _ _ c.if-p-square.false)
     c.write_line-2.ensures

@@ -8,27 +8,21 @@ use Rattle.listing.specs.Listing.{run_word, run_line}
 use Rattle.listing.proofs.Text.{put_line, put_then, run_most}
 use Rattle.says.specs.Say.{rows_word}
 use Rattle.showing.proofs.Laws.{rows_most}
-use borrow.Author.Rules.{rules}
 use Rattle.showing.proofs.put_heading.Goals as goal
-use Rattle.showing.proofs.put_heading.Goals.{After-out-1, After-put_line-arg-1, After-slice_known-1}
 
 pub returns : goal.returns
 unfolding run_line
 returns c =
     let second = c.put_line in
-    let p = (goal.at.returns c).After-out-1 in
-    let known = (goal.at.After-out-1 p).After-put_line-arg-1 in
-    let s = (goal.at.After-put_line-arg-1 known).After-slice_known-1 in
-    let a = s.args in
-    let f = s.ranges in
-    let out = a.out.now in
-    let first = put_line run_word (a.n ∷ a.t ∷ a.faulty ∷ []) out p.put_line-end.new.text 0 p.put_line-end.result 18
-    (run_most a.n a.t a.faulty f.n.fits f.t.fits f.faulty.fits) (omega (arith, s.requires.1))
-    p.put_line-end.ensures.value p.put_line-end.ensures.text_after in
-    let room : p.put_line-end.result + 278 ≤ length p.put_line-end.new.text =
-    omega (arith, first.1, p.put_line-end.auto.text, s.requires.1) in
-    let next = put_line rows_word a.rows.now p.put_line-end.new.text second.new.text p.put_line-end.result
-    second.result 278
-    (rows_most a.rows.now s.requires.0 (λ i. (known.shared_slice_known-1.given i).fits)) room
+    let one = c.put_line-end in
+    let a = c.args in
+    let f = c.ranges in
+    let first = put_line run_word (a.n ∷ a.t ∷ a.faulty ∷ []) a.out.now one.new.text 0 one.result 18
+    (run_most a.n a.t a.faulty f.n.fits f.t.fits f.faulty.fits) (omega (arith, c.requires.1))
+    one.ensures.value one.ensures.text_after in
+    let room : one.result + 278 ≤ length one.new.text =
+    omega (arith, first.1, one.auto.text, c.requires.1) in
+    let next = put_line rows_word a.rows.now one.new.text second.new.text one.result second.result 278
+    (rows_most a.rows.now c.requires.0 (λ i. (c.type_inv.rows i).fits)) room
     second.ensures.value second.ensures.text_after in
-    put_then first.0 next.0 (omega (arith, first.1, next.1, s.requires.1))
+    put_then first.0 next.0 (omega (arith, first.1, next.1, c.requires.1))

@@ -26,9 +26,8 @@ use Rattle.showing.proofs.Laws.{
   text_table,
   text_behind,
 }
-use borrow.Author.Rules.{rules}
 use Rattle.showing.proofs.put_part.Goals as goal
-use Rattle.showing.proofs.put_part.Goals.{After-put_heading, After-show_table, Else-h-part, Else-part-eq0, Start, Then-part-eq0}
+use Rattle.showing.proofs.put_part.Goals.{Else-h-part, Start}
 
 abbrev bytes_of : Start → List ℕ
 bytes_of s = s.args.bytes.now
@@ -71,20 +70,17 @@ put_heading-requires c =
 pub returns-then-part-eq0 : goal.returns-then-part-eq0
 unfolding heading_text
 returns-then-part-eq0 c =
-    let put = (goal.at.returns-then-part-eq0 c).After-put_heading in
-    let then = (goal.at.After-put_heading put).Then-part-eq0 in
-    let s = (goal.at.Then-part-eq0 then).Start in
+    let s = (goal.at.returns-then-part-eq0 c).Start in
     subst (Put _ _ _ _)
     (ap₂ (λ (h : Heading) (rows : List ℕ). run_line h.n h.t h.faulty ++ line_of rows_word rows)
     s.requires.h_value.0 s.requires.h_value.1
-    ∙ sym (text_first (bytes_of s) s.args.part then.if-part-eq0.true))
-    put.put_heading.ensures
+    ∙ sym (text_first (bytes_of s) s.args.part c.if-part-eq0.true))
+    c.put_heading.ensures
 
 pub returns-then-h-part : goal.returns-then-h-part
 returns-then-h-part c =
-    let else = (goal.at.returns-then-h-part c).Else-part-eq0 in
-    let s = (goal.at.Else-part-eq0 else).Start in
-    rw (text_behind (bytes_of s) s.args.part else.if-part-eq0.false (omega (arith, due_of s, c.if-h-part.true)))
+    let s = (goal.at.returns-then-h-part c).Start in
+    rw (text_behind (bytes_of s) s.args.part c.if-part-eq0.false (omega (arith, due_of s, c.if-h-part.true)))
     (put_nothing _ _)
 
 pub overflow_cast-m : goal.overflow_cast-m
@@ -103,7 +99,6 @@ show_table-requires c =
 
 pub returns : goal.returns
 returns c =
-    let put = (goal.at.returns c).After-show_table in
-    let e = (goal.at.After-show_table put).Else-h-part in
+    let e = (goal.at.returns c).Else-h-part in
     let s = start_of e in
-    subst (Put _ _ _ _) (sym (text_table (bytes_of s) s.args.part (part_of e) (upto e))) put.show_table.ensures
+    subst (Put _ _ _ _) (sym (text_table (bytes_of s) s.args.part (part_of e) (upto e))) c.show_table.ensures

@@ -1,7 +1,7 @@
 -- `showing::put_table` meets its contract: after each turn the lines of the places before this one stand there, 40
 -- bytes at most for each. What falls is the number of places left. Assumes nothing.
 use mathlib.Core.Path.{◌≡◌, refl, sym, ap, subst}
-use Prim.Native.Nat.{ℕ, ◌+◌, ◌-◌, ◌*◌, ◌≤◌, ◌<◌}
+use Prim.Native.Nat.{ℕ, ◌+◌, ◌≤◌, ◌<◌}
 use native.Mathlib.Numerals.{add-one}
 use native.Mathlib.Omega.{arith}
 use lib.ListN.{length, get_or}
@@ -27,7 +27,8 @@ put_place-end-requires c =
     let s = start_of h in
     let below : h.loop-place.place < table_rows s.args.n = omega (arith, i.loop-place-test.true, s.requires.le_n.3) in
     let room : h.loop-place.end + 40 ≤ length h.loop-place.out =
-    omega (arith, h.loop-place.invariant.1, h.loop-place.invariant.3, i.loop-place-test.true, s.requires.rows_in_bounds) in
+    let kept = h.loop-place.invariant in
+    omega (arith, kept.1, kept.3, i.loop-place-test.true, s.requires.rows_in_bounds) in
     (s.requires.le_n.0, s.requires.le_n.1, s.requires.le_n.2, below, room)
 
 pub loop-place-preserved : goal.loop-place-preserved

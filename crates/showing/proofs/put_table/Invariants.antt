@@ -1,15 +1,10 @@
 -- `showing::put_table` meets its contract: after each turn the lines of the places before this one stand there, 40
 -- bytes at most for each. What falls is the number of places left. Assumes nothing.
-use mathlib.Core.Path.{◌≡◌, refl, sym, ap, subst}
-use Prim.Native.Nat.{ℕ, ◌+◌, ◌-◌, ◌*◌, ◌≤◌, ◌<◌}
-use native.Mathlib.Numerals.{add-one}
-use native.Mathlib.Omega.{arith}
+use mathlib.Core.Path.{◌≡◌}
+use Prim.Native.Nat.{◌-◌, ◌*◌, ◌≤◌}
 use lib.ListN.{length, get_or}
-use Rattle.sizes.specs.Sizes.{table_rows}
 use Rattle.listing.specs.Inside.{Put}
-use Rattle.listing.proofs.Text.{put_nothing, put_then, put_long}
 use Rattle.showing.specs.Show.{places_text}
-use borrow.Author.Rules.{rules}
 use Rattle.showing.proofs.put_table.Given as goal
 
 abbrev pub invariant-loop-place : goal.invariant-loop-place

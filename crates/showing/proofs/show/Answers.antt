@@ -21,51 +21,42 @@ use Rattle.showing.proofs.Laws.{
   show_leaves,
   show_written,
 }
-use borrow.Author.Rules.{rules}
 use Rattle.showing.proofs.show.Reads as Reads
 use Rattle.showing.proofs.show.Goals as goal
-use Rattle.showing.proofs.show.Goals.{After-put_part-size, After-read_heading-h, Else-refusal-ne0, Start}
+use Rattle.showing.proofs.show.Goals.{After-read_heading-h, Else-refusal-ne0}
 
 -- where the heading is read
-abbrev start_of : After-read_heading-h → Start
-start_of c = (goal.at.After-read_heading-h c).Start
-
-abbrev bytes_of : After-read_heading-h → List ℕ
-bytes_of c = (start_of c).args.bytes.now
-
-is_heading : (c : After-read_heading-h) → c.read_heading-h.result ≡ heading (bytes_of c)
+is_heading : (c : After-read_heading-h) → c.read_heading-h.result ≡ heading c.args.bytes.now
 unfolding heading
 is_heading c = c.read_heading-h.ensures.value
 
 -- where the part is not refused
-abbrev read_of : Else-refusal-ne0 → After-read_heading-h
-read_of c = (goal.at.Else-refusal-ne0 c).After-read_heading-h
+read_of : (c : Else-refusal-ne0) → c.read_heading-h.result ≡ heading c.args.bytes.now
+read_of c = is_heading (goal.at.Else-refusal-ne0 c).After-read_heading-h
 
-none : (c : Else-refusal-ne0) → let s = start_of (read_of c) in show_refusal (bytes_of (read_of c)) s.args.part (length s.args.out.now) ≡ 0
+none : (c : Else-refusal-ne0) → show_refusal c.args.bytes.now c.args.part (length c.args.out.now) ≡ 0
 none c = sym c.show_refusal-refusal.ensures ∙ c.if-refusal-ne0.false
 
-fair : (c : Else-refusal-ne0) → let s = start_of (read_of c) in (ends_with (bytes_of (read_of c)) ≡ 0) × (part_room (bytes_of (read_of c)) s.args.part ≤ length s.args.out.now)
-fair c =
-    let s = start_of (read_of c) in
-    none_refused_of (bytes_of (read_of c)) s.args.part (length s.args.out.now) (none c)
+fair : (c : Else-refusal-ne0) → let a = c.args in
+    (ends_with a.bytes.now ≡ 0) × (part_room a.bytes.now a.part ≤ length a.out.now)
+fair c = none_refused_of c.args.bytes.now c.args.part (length c.args.out.now) (none c)
 
-ok : (c : Else-refusal-ne0) → (heading (bytes_of (read_of c))).refusal ≡ 0
-ok c = (good_of (bytes_of (read_of c)) (fair c).0).ok
+ok : (c : Else-refusal-ne0) → (heading c.args.bytes.now).refusal ≡ 0
+ok c = (good_of c.args.bytes.now (fair c).0).ok
 
-n_of_lem : (c : Else-refusal-ne0) → (read_of c).read_heading-h.result.n ≡ (heading (bytes_of (read_of c))).n
-n_of_lem c = ap (λ (h : Heading). h.n) (is_heading (read_of c))
+n_of : (c : Else-refusal-ne0) → c.read_heading-h.result.n ≡ (heading c.args.bytes.now).n
+n_of c = ap (λ (h : Heading). h.n) (read_of c)
 
 -- the rows that were written have room for n of them, and those n are the heading's
-room_of : (c : Else-refusal-ne0) → (read_of c).read_heading-h.result.n ≤ length (read_of c).read_heading-h.new.rows
+room_of : (c : Else-refusal-ne0) → c.read_heading-h.result.n ≤ length c.read_heading-h.new.rows
 room_of c =
-    let r = read_of c in
-    omega (arith, n_of_lem c, (headed (bytes_of r) (ok c)).high, r.read_heading-h.auto.rows)
+    omega (arith, n_of c, (headed c.args.bytes.now (ok c)).high, c.read_heading-h.auto.rows)
 
-rows_of_lem : (c : Else-refusal-ne0) → take (read_of c).read_heading-h.result.n (read_of c).read_heading-h.new.rows ≡ rows_of (bytes_of (read_of c))
-rows_of_lem c =
-    let r = read_of c in
-    ap₂ (λ (n : ℕ) (rows : List ℕ). take n rows) (n_of_lem c) r.read_heading-h.ensures.rows_after
-    ∙ heading_rows (bytes_of r) (ok c)
+rows_written : (c : Else-refusal-ne0) →
+    take c.read_heading-h.result.n c.read_heading-h.new.rows ≡ rows_of c.args.bytes.now
+rows_written c =
+    ap₂ (λ (n : ℕ) (rows : List ℕ). take n rows) (n_of c) c.read_heading-h.ensures.rows_after
+    ∙ heading_rows c.args.bytes.now (ok c)
 
 -- the contract admits one reply, and one last contents of the slice
 pub only_one : (κs : _) (a : _) (r s : _) (x y : _) → Reads.Post κs a r x → Reads.Post κs a s y →
@@ -77,35 +68,39 @@ show_refusal-refusal-requires c = is_heading (goal.at.show_refusal-refusal-requi
 
 pub returns-then-refusal-ne0 : goal.returns-then-refusal-ne0
 returns-then-refusal-ne0 c =
-    let r = (goal.at.returns-then-refusal-ne0 c).After-read_heading-h in
-    let a = (start_of r).args in
+    let a = c.args in
     let e = c.show_refusal-refusal.ensures in
-    let refused : show_refusal (bytes_of r) a.part (length a.out.now) ≡ 0 → ⊥ =
+    let refused : show_refusal a.bytes.now a.part (length a.out.now) ≡ 0 → ⊥ =
     λ z. c.if-refusal-ne0.true (e ∙ z) in
-    record { value = ap {B = Shown} (λ (k : ℕ). record { refusal = k; size = 0; parts = 0 }) e
-          ∙ show_refused (bytes_of r) a.part (length a.out.now) refused; out_after = show_leaves (bytes_of r) a.part a.out.now refused }
+    record {
+      value = ap {B = Shown} (λ (k : ℕ). record { refusal = k; size = 0; parts = 0 }) e
+          ∙ show_refused a.bytes.now a.part (length a.out.now) refused;
+      out_after = show_leaves a.bytes.now a.part a.out.now refused;
+    }
 
 pub slice_bounds-rows-end : goal.slice_bounds-rows-end
 slice_bounds-rows-end c = room_of (goal.at.slice_bounds-rows-end c).Else-refusal-ne0
 
 pub slice_bounds-put_part-end : goal.slice_bounds-put_part-end
-slice_bounds-put_part-end c = sym (length-take-le _ _ (room_of (goal.at.slice_bounds-put_part-end c).Else-refusal-ne0))
+slice_bounds-put_part-end c =
+    sym (length-take-le _ _ (room_of (goal.at.slice_bounds-put_part-end c).Else-refusal-ne0))
 
 pub put_part-size-requires : goal.put_part-size-requires
 put_part-size-requires c =
     let e = (goal.at.put_part-size-requires c).Else-refusal-ne0 in
-    record { h_value = (is_heading (read_of e), rows_of_lem e, (fair e).0); part_in_bounds = (fair e).1 }
+    record { h_value = (read_of e, rows_written e, (fair e).0); part_in_bounds = (fair e).1 }
 
 pub returns : goal.returns
 unfolding parts_of due
 returns c =
-    let put = (goal.at.returns c).After-put_part-size in
-    let e = (goal.at.After-put_part-size put).Else-refusal-ne0 in
-    let r = read_of e in
-    let a = (start_of r).args in
-    let text = put.put_part-size.ensures in
-    let size : put.put_part-size.result ≡ length (part_text (bytes_of r) a.part) = omega (arith, text.ends) in
-    let parts : r.read_heading-h.result.t + 2 ≡ parts_of (bytes_of r) =
-    omega (arith, ap (λ (h : Heading). h.t) (is_heading r)) in
-    record { value = ap₂ {C = Shown} (λ (k m : ℕ). record { refusal = 0; size = k; parts = m }) size parts
-          ∙ show_given (bytes_of r) a.part (length a.out.now) (none e); out_after = text.stands ∙ show_written (bytes_of r) a.part a.out.now (none e) }
+    let e = (goal.at.returns c).Else-refusal-ne0 in
+    let a = c.args in
+    let text = c.put_part-size.ensures in
+    let size : c.put_part-size.result ≡ length (part_text a.bytes.now a.part) = omega (arith, text.ends) in
+    let parts : c.read_heading-h.result.t + 2 ≡ parts_of a.bytes.now =
+    omega (arith, ap (λ (h : Heading). h.t) (read_of e)) in
+    record {
+      value = ap₂ {C = Shown} (λ (k m : ℕ). record { refusal = 0; size = k; parts = m }) size parts
+          ∙ show_given a.bytes.now a.part (length a.out.now) (none e);
+      out_after = text.stands ∙ show_written a.bytes.now a.part a.out.now (none e);
+    }
