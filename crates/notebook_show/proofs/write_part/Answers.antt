@@ -1,0 +1,30 @@
+-- `notebook_show::write_part` is safe and ends: what was written lies within the text. Assumes nothing.
+use Prim.Native.Nat.{◌≤◌}
+use mathlib.Core.Path.{sym, ap}
+use native.Mathlib.Omega.{arith}
+use lib.ListN.{length}
+use lib.Seq.{length-take-le}
+use Rattle.showing.specs.declared.Shown.{Shown}
+use Rattle.showing.proofs.Room.{show_within}
+use borrow.Author.Rules.{rules}
+use Rattle.notebook_show.proofs.write_part.Goals as goal
+use Rattle.notebook_show.proofs.write_part.Goals.{After-shared_slice_known-1, After-show-size}
+
+-- what was written is part of the text
+written : (c : After-show-size) → c.show-size.result.size ≤ length c.show-size.new.out
+written c =
+    let known = (goal.at.After-show-size c).After-shared_slice_known-1 in
+    let f = known.args in
+    omega (
+      arith,
+      ap (λ (r : Shown). r.size) c.show-size.ensures.value,
+      show_within f.file.now f.part (length f.text.now)
+          (λ i. omega (arith, known.shared_slice_known-1.given i)),
+      c.show-size.auto,
+    )
+
+pub slice_bounds-write_all-end : goal.slice_bounds-write_all-end
+slice_bounds-write_all-end c = written (goal.at.slice_bounds-write_all-end c).After-show-size
+
+pub slice_bounds-write_all-end-2 : goal.slice_bounds-write_all-end-2
+slice_bounds-write_all-end-2 c = sym (length-take-le _ _ (written (goal.at.slice_bounds-write_all-end-2 c).After-show-size))
