@@ -106,11 +106,11 @@ bounds_needed =
             box0 = refl;
             box1 = refl;
           };
-      too_many_faulty = record { faulty_boxes_lem = refl; start = refl; iteration = refl; box0 = refl; box1 = refl };
+      too_many_faulty = record { faulty_count = refl; start = refl; iteration = refl; box0 = refl; box1 = refl };
       too_small =
           record {
             boxes = refl;
-            faulty_boxes_lem = omega arith;
+            faulty_count = omega arith;
             none_listed =
                 λ i k si sk. ap (λ (list : ℕ). member list k) (get_or-replicate 3 i 0 0 si.below) ∙ member_empty k;
             none_zero = rows_not_zero 3 4 two refl;

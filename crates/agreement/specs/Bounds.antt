@@ -36,7 +36,7 @@ two = 10 ∷ 20 ∷ 0 ∷ []
 -- t + 1 faulty boxes are too many: with t = 0 and one faulty box no call is refused, and boxes 0 and 1 end with
 -- different rows
 pub record TooManyFaulty : Type 0 where
-  pub faulty_boxes_lem : faulty_boxes 3 4 ≡ 0 + 1
+  pub faulty_count : faulty_boxes 3 4 ≡ 0 + 1
   pub start : (replies 3 0 4 two two_faced 0).refusal ≡ 0
   pub iteration : (replies 3 0 4 two two_faced (0 + 1)).refusal ≡ 0
   pub box0 : get_or (rows_after (replies 3 0 4 two two_faced) (0 + 1)) 0 0 ≡ 5
@@ -50,7 +50,7 @@ wavering =
 -- n = 3t is too small: the other premises of gradecast hold, and two sound boxes vote differently for one leader
 pub record TooSmall : Type 0 where
   pub boxes : ◌≡◌ {A = ℕ} 3 (3 * 1)
-  pub faulty_boxes_lem : faulty_boxes 3 4 ≤ 1
+  pub faulty_count : faulty_boxes 3 4 ≤ 1
   pub none_listed : NoSoundListed 3 4 (replicate 3 0)
   pub none_zero : SoundRowsNotZero 3 4 two
   pub vote0 : voted 3 1 4 two (replicate 3 0) wavering 0 2 ≡ 5

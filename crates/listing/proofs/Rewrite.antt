@@ -90,38 +90,38 @@ part_bytes n bytes m all k l =
     subst (λ (b : ℕ). b < 256) (sym same) (all (from + k) (omega (arith, cut, rest, l)))
 
 module _ (bytes : List ℕ) (all : AllBytes bytes) (taken : ends_with bytes ≡ 0) where
-  abbrev n_of_lem : ℕ
-  n_of_lem = (heading bytes).n
+  abbrev n_here : ℕ
+  n_here = (heading bytes).n
 
   ok : (heading bytes).refusal ≡ 0
   ok = (taken_exact bytes taken).0
 
-  exact : length bytes ≡ heading_bytes n_of_lem + due bytes * table_bytes n_of_lem
+  exact : length bytes ≡ heading_bytes n_here + due bytes * table_bytes n_here
   unfolding table_begins
   exact = (taken_exact bytes taken).1
 
   -- the heading, with a number in the place of the t byte, and the tables are the file with that number
   whole : (t : ℕ) →
-      set (take (heading_bytes n_of_lem) bytes) 6 t ++ joined (bytes_of n_of_lem bytes) (due bytes) ≡ set bytes 6 t
+      set (take (heading_bytes n_here) bytes) 6 t ++ joined (bytes_of n_here bytes) (due bytes) ≡ set bytes 6 t
   unfolding heading_bytes
   whole t =
-      let first = heading_bytes n_of_lem in
-      let size = due bytes * table_bytes n_of_lem in
+      let first = heading_bytes n_here in
+      let size = due bytes * table_bytes n_here in
       let left = drop first bytes in
       let long : length (take first bytes) ≡ first = length-take-le first bytes (omega (arith, exact)) in
-      ap (λ (ys : List ℕ). set (take first bytes) 6 t ++ ys) (joined_tables n_of_lem bytes (due bytes))
+      ap (λ (ys : List ℕ). set (take first bytes) 6 t ++ ys) (joined_tables n_here bytes (due bytes))
       ∙ sym (set-append_left (take first bytes) (take size left) 6 t (omega (arith, long)))
       ∙ ap (λ (xs : List ℕ). set xs 6 t)
       (sym (take-add first size bytes) ∙ take_all (first + size) bytes (omega (arith, exact)))
 
   -- a table that is due is whole
-  table_whole : (m : ℕ) → m < due bytes → length (bytes_of n_of_lem bytes m) ≡ 8 * table_rows n_of_lem
+  table_whole : (m : ℕ) → m < due bytes → length (bytes_of n_here bytes m) ≡ 8 * table_rows n_here
   table_whole m l =
-      let far = begins_mono n_of_lem (suc m) (due bytes) l in
-      table_long n_of_lem bytes m (heading_low bytes ok) (heading_high bytes ok)
-      (omega (arith, far, begins_next n_of_lem m, (taken_exact bytes taken).1))
+      let far = begins_mono n_here (suc m) (due bytes) l in
+      table_long n_here bytes m (heading_low bytes ok) (heading_high bytes ok)
+      (omega (arith, far, begins_next n_here m, (taken_exact bytes taken).1))
 
-  n_is : n_of_lem ≡ n_of bytes
+  n_is : n_here ≡ n_of bytes
   unfolding heading_of
   n_is = ap (λ (h : Heading). h.n) (heading_says bytes ok)
 
@@ -139,7 +139,7 @@ module _ (bytes : List ℕ) (all : AllBytes bytes) (taken : ends_with bytes ≡ 
   same_t other = ap (set bytes 6) (t_is other) ∙ set-get_or bytes 6 0
 
   head_again : (t : ℕ) →
-      heading_file n_of_lem t (heading bytes).faulty (rows_of bytes) ≡ set (take (heading_bytes n_of_lem) bytes) 6 t
+      heading_file n_here t (heading bytes).faulty (rows_of bytes) ≡ set (take (heading_bytes n_here) bytes) 6 t
   unfolding rows_of
   head_again t =
       ap₂ (λ (n faulty : ℕ). heading_file n t faulty (rows_of bytes)) n_is faulty_is
@@ -154,9 +154,9 @@ module _ (bytes : List ℕ) (all : AllBytes bytes) (taken : ends_with bytes ≡ 
   unfolding file_from table_of due
   file_again =
       ap₂ (λ (xs ys : List ℕ). xs ++ ys) (head_again (heading bytes).t)
-      (joined_ext (λ m. table_file n_of_lem (table_of n_of_lem bytes m)) (bytes_of n_of_lem bytes) (due bytes)
+      (joined_ext (λ m. table_file n_here (table_of n_here bytes m)) (bytes_of n_here bytes) (due bytes)
       (λ m l.
-      table_again n_of_lem (bytes_of n_of_lem bytes m) (table_of n_of_lem bytes m) (part_bytes n_of_lem bytes m all) (table_whole m l)
+      table_again n_here (bytes_of n_here bytes m) (table_of n_here bytes m) (part_bytes n_here bytes m all) (table_whole m l)
       refl))
       ∙ whole (heading bytes).t
 

@@ -23,7 +23,7 @@ use Rattle.says.specs.Told.{
   run_due,
   rows_due,
   say_due,
-  not_understood_lem,
+  not_understood_line,
   sentence,
   fault_line,
   told_text,
@@ -99,7 +99,7 @@ sentence_short fault = go (eqb fault 1) (eqb fault 2) (eqb fault 3) (eqb fault 4
   where
     go : (a b c d e : Bool) →
         length
-        (cond a too_long (cond b no_numbers (cond c run_due (cond d rows_due (cond e say_due not_understood_lem)))))
+        (cond a too_long (cond b no_numbers (cond c run_due (cond d rows_due (cond e say_due not_understood_line)))))
         ≤ 85
     go true b c d e = omega arith
     go false true c d e = omega arith

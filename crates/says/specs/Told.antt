@@ -53,8 +53,8 @@ say_due =
     ∷ 32 ∷ 114 ∷ 111 ∷ 119 ∷ 10 ∷ []
 
 -- `: this line is not understood` and a newline
-abbrev pub not_understood_lem : List ℕ
-not_understood_lem =
+abbrev pub not_understood_line : List ℕ
+not_understood_line =
     58 ∷ 32 ∷ 116 ∷ 104 ∷ 105 ∷ 115 ∷ 32 ∷ 108 ∷ 105 ∷ 110 ∷ 101 ∷ 32 ∷ 105 ∷
     115 ∷ 32 ∷ 110 ∷ 111 ∷ 116 ∷ 32 ∷ 117 ∷ 110 ∷ 100 ∷ 101 ∷ 114 ∷ 115 ∷ 116
     ∷ 111 ∷ 111 ∷ 100 ∷ 10 ∷ []
@@ -64,7 +64,7 @@ unfoldable pub sentence : ℕ → List ℕ
 sentence fault =
     cond (eqb fault 1) too_long
     (cond (eqb fault 2) no_numbers
-    (cond (eqb fault 3) run_due (cond (eqb fault 4) rows_due (cond (eqb fault 5) say_due not_understood_lem))))
+    (cond (eqb fault 3) run_due (cond (eqb fault 4) rows_due (cond (eqb fault 5) say_due not_understood_line))))
 
 -- the line of a fault: `line`, a space, the number of the line, and the sentence
 unfoldable pub fault_line : ℕ → List ℕ → List ℕ

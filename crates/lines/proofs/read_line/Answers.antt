@@ -34,18 +34,18 @@ use Rattle.lines.proofs.read_line.Goals.{
 abbrev start_of : After-word_size-word → Start
 start_of c = (goal.at.After-word_size-word c).Start
 
-abbrev line_of_lem : After-word_size-word → List ℕ
-line_of_lem c = (start_of c).args.line.now
+abbrev line_at : After-word_size-word → List ℕ
+line_at c = (start_of c).args.line.now
 
 -- what is lent of the line is the line without its carriage return
 abbrev text_of : After-word_size-word → List ℕ
-text_of c = take c.bare_size-end.result (line_of_lem c)
+text_of c = take c.bare_size-end.result (line_at c)
 
-bare_of : (c : After-word_size-word) → text_of c ≡ bare (line_of_lem c)
+bare_of : (c : After-word_size-word) → text_of c ≡ bare (line_at c)
 bare_of c = c.bare_size-end.ensures.line_value
 
 size_of : (c : After-word_size-word) → c.bare_size-end.result ≡ length (text_of c)
-size_of c = sym (length-take-le c.bare_size-end.result (line_of_lem c) c.bare_size-end.ensures.upper_bound)
+size_of c = sym (length-take-le c.bare_size-end.result (line_at c) c.bare_size-end.ensures.upper_bound)
 
 word_of : (c : After-word_size-word) → c.word_size-word.result ≡ length (word_in (text_of c))
 word_of c = c.word_size-word.ensures
@@ -57,14 +57,14 @@ found_of c = (goal.at.Else-not-found c).After-word_size-word
 good_of : (c : Else-not-found) → is_line (text_of (found_of c)) ≡ true
 good_of c = sym c.find_numbers-found.ensures.good_value ∙ not-false _ c.if-not-found.false
 
-bare_good : (c : Else-not-found) → is_line (bare (line_of_lem (found_of c))) ≡ true
+bare_good : (c : Else-not-found) → is_line (bare (line_at (found_of c))) ≡ true
 bare_good c = ap is_line (sym (bare_of (found_of c))) ∙ good_of c
 
 count_of : (c : Else-not-found) → c.find_numbers-found.result.count ≡ length (numbers_in (text_of (found_of c)))
 count_of c = c.find_numbers-found.ensures.count_value (not-false _ c.if-not-found.false)
 
 bare_count : (c : Else-not-found) →
-    c.find_numbers-found.result.count ≡ length (numbers_in (bare (line_of_lem (found_of c))))
+    c.find_numbers-found.result.count ≡ length (numbers_in (bare (line_at (found_of c))))
 bare_count c = count_of c ∙ ap (λ (text : List ℕ). length (numbers_in text)) (bare_of (found_of c))
 
 -- the contract admits one reply, and one last contents of the slice
@@ -88,14 +88,14 @@ returns-then-not-found c =
     ∙ sym call.find_numbers-found.ensures.good_value
     ∙ not-true _ c.if-not-found.true in
     record {
-      value = sym (read_nothing (line_of_lem f) bad (length out));
-      numbers_after = sym (read_leaves (line_of_lem f) bad out);
+      value = sym (read_nothing (line_at f) bad (length out));
+      numbers_after = sym (read_leaves (line_at f) bad out);
     }
 
 pub returns-then-numbers-count : goal.returns-then-numbers-count
 returns-then-numbers-count c =
     let s = (goal.at.returns-then-numbers-count c).Else-not-found in
-    let line = line_of_lem (found_of s) in
+    let line = line_at (found_of s) in
     let out = (start_of (found_of s)).args.numbers.now in
     let short : length out < length (numbers_in (bare line)) =
     omega (arith, c.if-numbers-count.true, bare_count s) in
@@ -123,14 +123,14 @@ returns c =
     let s = (goal.at.Else-numbers-count room).Else-not-found in
     let f = found_of s in
     let out = (start_of f).args.numbers.now in
-    let fits : length (numbers_in (bare (line_of_lem f))) ≤ length out =
+    let fits : length (numbers_in (bare (line_at f))) ≤ length out =
     omega (arith, room.if-numbers-count.false, bare_count s) in
     record {
       value = ap₂ {C = Words} (λ (w k : ℕ). record { refusal = 0; word = w; count = k })
           (word_of f ∙ ap (λ (text : List ℕ). length (word_in text)) (bare_of f))
           (bare_count s)
-          ∙ sym (read_given (line_of_lem f) (bare_good s) (length out) fits);
+          ∙ sym (read_given (line_at f) (bare_good s) (length out) fits);
       numbers_after = call.take_numbers.ensures
           ∙ ap (λ (text : List ℕ). placed out 0 (numbers_in text)) (bare_of f)
-          ∙ sym (read_written (line_of_lem f) (bare_good s) out fits);
+          ∙ sym (read_written (line_at f) (bare_good s) out fits);
     }

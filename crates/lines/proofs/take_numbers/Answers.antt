@@ -20,29 +20,29 @@ use Rattle.lines.proofs.take_numbers.Goals.{After-read_piece-part, At-loop-at, I
 abbrev start_of : At-loop-at → Start
 start_of h = (goal.at.At-loop-at h).Start
 
-abbrev line_of_lem : At-loop-at → List ℕ
-line_of_lem h = (start_of h).args.line.now
+abbrev line_at : At-loop-at → List ℕ
+line_at h = (start_of h).args.line.now
 
 -- the numbers passed, and the slice's length
-passed_of : (h : At-loop-at) → length (take h.loop-at.count (numbers_in (line_of_lem h))) ≡ h.loop-at.count
-passed_of h = length-take-le h.loop-at.count (numbers_in (line_of_lem h)) h.loop-at.invariant.0.some
+passed_of : (h : At-loop-at) → length (take h.loop-at.count (numbers_in (line_at h))) ≡ h.loop-at.count
+passed_of h = length-take-le h.loop-at.count (numbers_in (line_at h)) h.loop-at.invariant.0.some
 
 long_of : (h : At-loop-at) → length h.loop-at.numbers ≡ length (start_of h).args.numbers.now
 long_of h =
     ap length h.loop-at.invariant.1
-    ∙ placed_length (start_of h).args.numbers.now 0 (take h.loop-at.count (numbers_in (line_of_lem h)))
+    ∙ placed_length (start_of h).args.numbers.now 0 (take h.loop-at.count (numbers_in (line_at h)))
     (omega (arith, passed_of h, h.loop-at.invariant.0.some, (start_of h).requires.line_in_bounds))
 
 -- the piece is a number or empty, so it has been read
-small_of : (c : In-loop-at) → is_small (part (line_of_lem (goal.at.In-loop-at c).At-loop-at) c.loop-at.at) ≡ true
+small_of : (c : In-loop-at) → is_small (part (line_at (goal.at.In-loop-at c).At-loop-at) c.loop-at.at) ≡ true
 small_of c =
     let h = (goal.at.In-loop-at c).At-loop-at in
-    walk_fine (line_of_lem h) h.loop-at.at h.loop-at.count h.loop-at.invariant.0 c.loop-at-test.true
-    (line_numbers (line_of_lem h) (start_of h).requires.line_value)
+    walk_fine (line_at h) h.loop-at.at h.loop-at.count h.loop-at.invariant.0 c.loop-at-test.true
+    (line_numbers (line_at h) (start_of h).requires.line_value)
 
 next_of : (c : After-read_piece-part) →
     let h = (goal.at.After-read_piece-part c).At-loop-at in
-    c.read_piece-part.result.next ≡ h.loop-at.at + 1 + length (part (line_of_lem h) h.loop-at.at)
+    c.read_piece-part.result.next ≡ h.loop-at.at + 1 + length (part (line_at h) h.loop-at.at)
 next_of c =
     let told = c.read_piece-part.ensures in
     told.next_value (told.good_value ∙ small_of (goal.at.After-read_piece-part c).In-loop-at)
@@ -50,11 +50,11 @@ next_of c =
 -- where there is a number, it has its place
 one_of : (c : Then-at-part) →
     let h = (goal.at.Then-at-part c).At-loop-at in
-    h.loop-at.count < length (numbers_in (line_of_lem h))
+    h.loop-at.count < length (numbers_in (line_at h))
 one_of c =
     let call = (goal.at.Then-at-part c).After-read_piece-part in
     let h = (goal.at.After-read_piece-part call).At-loop-at in
-    walk_one (line_of_lem h) h.loop-at.at h.loop-at.count h.loop-at.invariant.0 call.loop-at-test.true
+    walk_one (line_at h) h.loop-at.at h.loop-at.count h.loop-at.invariant.0 call.loop-at-test.true
     call.read_piece-part.result.next
     (next_of call)
     (small_of (goal.at.After-read_piece-part call).In-loop-at)
@@ -77,7 +77,7 @@ pub loop-at-preserved-then-at-part : goal.loop-at-preserved-then-at-part
 loop-at-preserved-then-at-part c =
     let call = (goal.at.loop-at-preserved-then-at-part c).After-read_piece-part in
     let h = (goal.at.After-read_piece-part call).At-loop-at in
-    let numbers = numbers_in (line_of_lem h) in
+    let numbers = numbers_in (line_at h) in
     let count = h.loop-at.count in
     let at = h.loop-at.at in
     let next = call.read_piece-part.result.next in
@@ -85,10 +85,10 @@ loop-at-preserved-then-at-part c =
     let small = small_of (goal.at.After-read_piece-part call).In-loop-at in
     let value : call.read_piece-part.result.value ≡ get_or numbers count 0 =
     call.read_piece-part.ensures.value_value (call.read_piece-part.ensures.good_value ∙ small)
-    ∙ sym (walk_value (line_of_lem h) at count h.loop-at.invariant.0 l next (next_of call) small c.if-at-part.true) in
+    ∙ sym (walk_value (line_at h) at count h.loop-at.invariant.0 l next (next_of call) small c.if-at-part.true) in
     let more : take (count + 1) numbers ≡ take count numbers ++ (get_or numbers count 0 ∷ []) =
     ap (λ (k : ℕ). take k numbers) (add-one count) ∙ take-suc numbers count 0 (one_of c) in (
-      walk_turn (line_of_lem h) at count h.loop-at.invariant.0 l next (next_of call) small c.if-at-part.true,
+      walk_turn (line_at h) at count h.loop-at.invariant.0 l next (next_of call) small c.if-at-part.true,
       placed_next (start_of h).args.numbers.now h.loop-at.numbers 0 (take count numbers)
           call.read_piece-part.result.value
           count
@@ -106,7 +106,7 @@ pub loop-at-preserved : goal.loop-at-preserved
 loop-at-preserved c =
     let call = (goal.at.loop-at-preserved c).After-read_piece-part in
     let h = (goal.at.After-read_piece-part call).At-loop-at in (
-      walk_skips (line_of_lem h) h.loop-at.at h.loop-at.count h.loop-at.invariant.0 call.loop-at-test.true
+      walk_skips (line_at h) h.loop-at.at h.loop-at.count h.loop-at.invariant.0 call.loop-at-test.true
           call.read_piece-part.result.next
           (next_of call)
           (small_of (goal.at.After-read_piece-part call).In-loop-at)
@@ -117,7 +117,7 @@ loop-at-preserved c =
 pub returns : goal.returns
 returns c =
     let h = (goal.at.returns c).At-loop-at in
-    let all = walk_all (line_of_lem h) h.loop-at.at h.loop-at.count h.loop-at.invariant.0 c.loop-at-test.false in
+    let all = walk_all (line_at h) h.loop-at.at h.loop-at.count h.loop-at.invariant.0 c.loop-at-test.false in
     h.loop-at.invariant.1
     ∙ ap (placed (start_of h).args.numbers.now 0)
-    (take_all h.loop-at.count (numbers_in (line_of_lem h)) (omega (arith, all)))
+    (take_all h.loop-at.count (numbers_in (line_at h)) (omega (arith, all)))

@@ -3,7 +3,6 @@
 use mathlib.Core.Path.{ap}
 use Prim.Native.Nat.{ℕ}
 use Rattle.making.specs.Make.{after_line}
-use borrow.Author.Rules.{rules}
 use Rattle.making.proofs.after_line.Goals as goal
 
 pub returns : goal.returns

@@ -5,7 +5,6 @@ use native.Mathlib.Omega.{arith}
 use lib.Seq.{take_all, length-take-le}
 use Rattle.making.specs.Make.{progress, line_ended}
 use Rattle.making.specs.Text.{line_over}
-use borrow.Author.Rules.{rules}
 use Rattle.making.proofs.end_line.Goals as goal
 use Rattle.making.proofs.end_line.Goals.{After-take_line, Then-line-m}
 

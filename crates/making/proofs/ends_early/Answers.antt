@@ -3,7 +3,6 @@
 use mathlib.Core.Path.{ap}
 use Prim.Native.Nat.{ℕ}
 use Rattle.making.specs.Text.{ends_early}
-use borrow.Author.Rules.{rules}
 use Rattle.making.proofs.ends_early.Goals as goal
 
 pub returns : goal.returns

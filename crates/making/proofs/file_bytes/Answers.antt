@@ -7,7 +7,6 @@ use Rattle.sizes.specs.Sizes.{Sized, size_refusal}
 use Rattle.sizes.proofs.Laws.{passes_sized}
 use Rattle.listing.proofs.Behind.{begins_inside}
 use Rattle.making.specs.Make.{file_bytes}
-use borrow.Author.Rules.{rules}
 use Rattle.making.proofs.file_bytes.Goals as goal
 use Rattle.making.proofs.file_bytes.Goals.{Else-size_refusal-ne0}
 
@@ -28,5 +27,6 @@ overflow_add-t c = let s = sized_of c in omega (arith, s.high, s.tolerated)
 pub returns : goal.returns
 unfolding file_bytes
 returns c =
-    let s = sized_of (goal.at.returns c).Else-size_refusal-ne0 in
-    begins_inside _ _ _ c.table_begins.ensures s.low s.high ∙ rw (eq-eqb _ 0 (passes (goal.at.returns c).Else-size_refusal-ne0)) refl
+    let d = (goal.at.returns c).Else-size_refusal-ne0 in
+    let s = sized_of d in
+    begins_inside _ _ _ c.table_begins.ensures s.low s.high ∙ rw (eq-eqb _ 0 (passes d)) refl

@@ -3,7 +3,6 @@ use mathlib.Core.Path.{refl}
 use native.Mathlib.Omega.{arith}
 use borrow.Author.Tests.{lt-ltb, le-ltb}
 use Rattle.making.specs.Make.{file_room}
-use borrow.Author.Rules.{rules}
 use Rattle.making.proofs.file_room.Goals as goal
 
 pub returns-then-room-needed : goal.returns-then-room-needed

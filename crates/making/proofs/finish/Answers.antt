@@ -5,7 +5,6 @@ use lib.ListN.{length}
 use borrow.Author.Tests.{le-leb, lt-leb, lt-ltb, le-ltb}
 use Rattle.making.specs.Make.{Progress}
 use Rattle.making.specs.Text.{outcome_by, finish_reply, finish_writes}
-use borrow.Author.Rules.{rules}
 use Rattle.making.proofs.finish.Reads as Reads
 use Rattle.making.proofs.finish.Goals as goal
 use Rattle.making.proofs.finish.Goals.{After-left_line-last, Else-line-lt1001}
@@ -37,7 +36,10 @@ returns c =
     let open-still = lt-leb 3 _ d.if-maker-ge3.false in
     let whole = le-ltb _ 1001 d.if-line-lt1001.false in
     let e = l.left_line-last.ensures in
-    record { value = c.outcome_by.ensures
+    record {
+      value = c.outcome_by.ensures
           ∙ ap (outcome_by l.left_line-last.result) l.left_line-last.auto.file
           ∙ ap (λ (p : Progress). outcome_by p.maker (length a.file.now)) e
-          ∙ rw (open-still, whole) refl; file_after = ap (λ (p : Progress). p.file) e ∙ rw (open-still, whole) refl }
+          ∙ rw (open-still, whole) refl;
+      file_after = ap (λ (p : Progress). p.file) e ∙ rw (open-still, whole) refl;
+    }

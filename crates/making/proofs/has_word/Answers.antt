@@ -2,11 +2,9 @@
 -- differs, and the search ends at the first that does. What is left of the word falls. Assumes nothing.
 use mathlib.Core.Path.{refl, sym, ap}
 use mathlib.Core.Bool.{not}
-use Prim.Native.Nat.{◌-◌}
 use borrow.Author.Tests.{eq-eqb, ne_eqb}
-use Rattle.counting.proofs.Loops.{NoneYet, search_begins, search_turn, search_hits, search_ends}
+use Rattle.counting.proofs.Loops.{search_begins, search_turn, search_hits, search_ends}
 use Rattle.making.specs.Make.{differ, has_word}
-use borrow.Author.Rules.{rules}
 use Rattle.making.proofs.has_word.Goals as goal
 use Rattle.making.proofs.has_word.Goals.{Else-size-word, In-loop-k}
 

@@ -1,12 +1,8 @@
 -- `making::has_word` meets its contract: two of different length are not the same; else none of the first k bytes
 -- differs, and the search ends at the first that does. What is left of the word falls. Assumes nothing.
-use mathlib.Core.Path.{refl, sym, ap}
-use mathlib.Core.Bool.{not}
 use Prim.Native.Nat.{◌-◌}
-use borrow.Author.Tests.{eq-eqb, ne_eqb}
-use Rattle.counting.proofs.Loops.{NoneYet, search_begins, search_turn, search_hits, search_ends}
-use Rattle.making.specs.Make.{differ, has_word}
-use borrow.Author.Rules.{rules}
+use Rattle.counting.proofs.Loops.{NoneYet}
+use Rattle.making.specs.Make.{differ}
 use Rattle.making.proofs.has_word.Given as goal
 
 abbrev pub invariant-loop-k : goal.invariant-loop-k

@@ -2,10 +2,8 @@
 -- What is left of the line falls. Assumes nothing.
 use mathlib.Core.Path.{ap}
 use mathlib.Core.Bool.{not}
-use Prim.Native.Nat.{◌-◌}
-use lib.ListN.{length}
-use Rattle.counting.proofs.Loops.{NoneYet, search_begins, search_turn, search_hits, search_ends}
-use Rattle.making.specs.Make.{not_blank, is_empty}
+use Rattle.counting.proofs.Loops.{search_begins, search_turn, search_hits, search_ends}
+use Rattle.making.specs.Make.{is_empty}
 use borrow.Author.Rules.{rules}
 use Rattle.making.proofs.is_empty.Goals as goal
 

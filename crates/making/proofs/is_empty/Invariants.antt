@@ -1,12 +1,9 @@
 -- `making::is_empty` meets its contract: none of the first k bytes is shown, and the search ends at the first that is.
 -- What is left of the line falls. Assumes nothing.
-use mathlib.Core.Path.{ap}
-use mathlib.Core.Bool.{not}
 use Prim.Native.Nat.{◌-◌}
 use lib.ListN.{length}
-use Rattle.counting.proofs.Loops.{NoneYet, search_begins, search_turn, search_hits, search_ends}
-use Rattle.making.specs.Make.{not_blank, is_empty}
-use borrow.Author.Rules.{rules}
+use Rattle.counting.proofs.Loops.{NoneYet}
+use Rattle.making.specs.Make.{not_blank}
 use Rattle.making.proofs.is_empty.Given as goal
 
 abbrev pub invariant-loop-k : goal.invariant-loop-k

@@ -9,7 +9,6 @@ use lib.ListN.{length, take, length-take}
 use borrow.Author.Tests.{le-leb, lt-leb, lt-ltb, le-ltb}
 use Rattle.making.specs.Text.{is_settled}
 use Rattle.making.proofs.Whole.{begins_so}
-use borrow.Author.Rules.{rules}
 use Rattle.making.proofs.is_settled.Reads as Reads
 use Rattle.making.proofs.is_settled.Goals as goal
 use Rattle.making.proofs.is_settled.Goals.{Else-line-le1000, Else-maker-ge3}

@@ -2,7 +2,6 @@
 use mathlib.Core.Path.{refl}
 use borrow.Author.Tests.{eq-eqb, ne_eqb}
 use Rattle.making.specs.Make.{not_blank}
-use borrow.Author.Rules.{rules}
 use Rattle.making.proofs.is_shown.Goals as goal
 
 pub returns-then-line-k-eq32 : goal.returns-then-line-k-eq32

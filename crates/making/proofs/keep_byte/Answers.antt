@@ -6,7 +6,6 @@ use lib.Seq.{set_out}
 use borrow.Author.Tests.{lt-ltb, le-ltb}
 use Rattle.making.specs.Text.{reading, keeping, byte_kept}
 use Rattle.making.specs.declared.Maker.{Maker}
-use borrow.Author.Rules.{rules}
 use Rattle.making.proofs.keep_byte.Goals as goal
 
 pub returns-then-line-m : goal.returns-then-line-m

@@ -2,7 +2,6 @@
 use mathlib.Core.Path.{refl, ◌∙◌}
 use borrow.Author.Tests.{eq-eqb, ne_eqb}
 use Rattle.making.specs.Text.{left_line}
-use borrow.Author.Rules.{rules}
 use Rattle.making.proofs.left_line.Goals as goal
 use Rattle.making.proofs.left_line.Goals.{After-end_line}
 

@@ -2,7 +2,6 @@
 -- at it that number is. Assumes nothing.
 use native.Mathlib.Omega.{arith}
 use Rattle.making.specs.Make.{one_more}
-use borrow.Author.Rules.{rules}
 use Rattle.making.proofs.one_more.Goals as goal
 
 pub returns-then-lines-lt18446744073709551615 : goal.returns-then-lines-lt18446744073709551615

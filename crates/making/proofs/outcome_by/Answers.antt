@@ -1,8 +1,8 @@
 -- `making::outcome_by` meets its contract: the stage is one of four cases, and each has its outcome. Assumes nothing.
 use mathlib.Core.Path.{◌∙◌}
 use Prim.Native.Nat.{◌≤◌}
+use native.Mathlib.Omega.{arith}
 use Rattle.making.proofs.Stages.{outcome_run, outcome_rows, outcome_say, outcome_over}
-use borrow.Author.Rules.{rules}
 use Rattle.making.proofs.outcome_by.Goals as goal
 
 pub returns-in-0 : goal.returns-in-0
@@ -16,6 +16,5 @@ returns-in-2 c = c.whole_file.ensures ∙ outcome_say _ _ c.in-2.is
 
 pub returns-in_default : goal.returns-in_default
 returns-in_default c =
-    let s = c.in_default.in_default-own.rest in
-    let over : 3 ≤ c.args.m.stage = search rules in
+    let over : 3 ≤ c.args.m.stage = omega arith in
     c.settled_as.ensures ∙ outcome_over _ _ over

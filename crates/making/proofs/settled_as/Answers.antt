@@ -3,7 +3,6 @@
 use mathlib.Core.Path.{refl, ◌∙◌}
 use borrow.Author.Tests.{eq-eqb, ne_eqb}
 use Rattle.making.specs.Text.{settled_as, refused_as}
-use borrow.Author.Rules.{rules}
 use Rattle.making.proofs.settled_as.Goals as goal
 
 pub returns-then-m-eq0 : goal.returns-then-m-eq0

@@ -4,7 +4,6 @@ use mathlib.Core.Path.{◌≡◌, refl, sym, ap, ◌∙◌}
 use borrow.Author.Tests.{le-leb, lt-leb, lt-ltb, le-ltb}
 use Rattle.making.specs.declared.Maker.{Maker}
 use Rattle.making.specs.Text.{Reading, reading, take_reply}
-use borrow.Author.Rules.{rules}
 use Rattle.making.proofs.take.Reads as Reads
 use Rattle.making.proofs.take.Goals as goal
 use Rattle.making.proofs.take.Goals.{After-take_bytes, Else-line-lt1001, Else-maker-ge3}

@@ -3,7 +3,6 @@ use mathlib.Core.Path.{refl, ap, ◌∙◌}
 use borrow.Author.Tests.{eq-eqb, ne_eqb, le-leb, lt-leb}
 use Rattle.making.specs.Make.{Progress}
 use Rattle.making.specs.Text.{reading, newline, byte_taken}
-use borrow.Author.Rules.{rules}
 use Rattle.making.proofs.take_byte.Goals as goal
 use Rattle.making.proofs.take_byte.Goals.{After-end_line, After-keep_byte, Else-byte-eq10, Else-m-ge3}
 
@@ -18,7 +17,7 @@ returns-then-byte-eq10 c =
     let n = (goal.at.After-end_line e).Else-m-ge3 in
     let a = n.args in
     ap (λ (p : Progress). reading p.maker a.line.now p.file) e.end_line.ensures
-    ∙ rw (lt-leb 3 _ n.if-m-ge3.false, eq-eqb _ 10 n.if-byte-eq10.true) refl
+    ∙ rw (lt-leb 3 _ n.if-m-ge3.false, eq-eqb _ 10 e.if-byte-eq10.true) refl
 
 pub returns : goal.returns
 unfolding byte_taken

@@ -29,51 +29,56 @@ use Rattle.making.proofs.Stages.{
   content_words,
 }
 use Rattle.making.proofs.Short.{wordless, worded, word_is, count_fits, numbers_are}
-use borrow.Author.Rules.{rules}
 use Rattle.making.proofs.take_line.Goals as goal
-use Rattle.making.proofs.take_line.Goals.{After-is_comment, After-read_line-words, After-take_words, Else-is_comment, Else-is_empty, Else-line-gt1000, Else-words-eq0, Start}
-
--- the line is counted, and asked whether it is a comment
-abbrev start_of : After-is_comment → Start
-start_of c = (goal.at.After-is_comment c).Start
+use Rattle.making.proofs.take_line.Goals.{
+  After-is_comment,
+  After-read_line-words,
+  Else-is_comment,
+  Else-is_empty,
+  Else-words-eq0,
+}
 
 -- a fault of the line that is counted
-fault_of : (c : After-is_comment) (r : Maker) (fault : ℕ) → r ≡ settled c.after_line-next.result c.after_line-next.result.refusal fault → let a = (start_of c).args in progress r a.file.now ≡ not_understood (counted_so a.m a.file.now a.line.now) fault
+fault_of : (c : After-is_comment) (r : Maker) (fault : ℕ) →
+    let a = c.args in
+    let next = c.after_line-next.result in
+    r ≡ settled next next.refusal fault →
+    progress r a.file.now ≡ not_understood (counted_so a.m a.file.now a.line.now) fault
 unfolding not_understood
 fault_of c r fault e =
-    let a = (start_of c).args in
+    let a = c.args in
     ap (λ (m : Maker). progress m a.file.now)
     (e ∙ ap (λ (m : Maker). settled m m.refusal fault) c.after_line-next.ensures)
 
-read_of : (c : Else-is_comment) → is_comment (start_of (goal.at.Else-is_comment c).After-is_comment).args.line.now ≡ false
+read_of : (c : Else-is_comment) → is_comment c.args.line.now ≡ false
 read_of c = sym c.is_comment.ensures ∙ c.if-is_comment.false
 
 -- the line has something in it
-content_of : (c : Else-is_empty) → let a = (start_of (goal.at.Else-is_empty c).After-is_comment).args in content_taken (counted_so a.m a.file.now a.line.now) a.line.now ≡ line_ended (progress a.m a.file.now) a.line.now
+content_of : (c : Else-is_empty) →
+    let a = c.args in
+    content_taken (counted_so a.m a.file.now a.line.now) a.line.now
+    ≡ line_ended (progress a.m a.file.now) a.line.now
 content_of c =
-    let f = (goal.at.Else-is_empty c).Else-line-gt1000 in
-    let a = (start_of (goal.at.Else-line-gt1000 f).After-is_comment).args in
-    line_content a.m a.file.now a.line.now (read_of (goal.at.Else-line-gt1000 f).Else-is_comment) f.if-line-gt1000.false
-    (sym c.is_empty.ensures ∙ c.if-is_empty.false)
+    let a = c.args in
+    line_content a.m a.file.now a.line.now (read_of (goal.at.Else-is_empty c).Else-is_comment)
+    c.if-line-gt1000.false (sym c.is_empty.ensures ∙ c.if-is_empty.false)
 
 -- where it has been read
 abbrev full_of : After-read_line-words → Else-is_empty
 full_of c = (goal.at.After-read_line-words c).Else-is_empty
 
-abbrev asked_of : After-read_line-words → After-is_comment
-asked_of c = (goal.at.Else-is_empty (full_of c)).After-is_comment
-
-short_of : (c : After-read_line-words) → let a = (start_of (asked_of c)).args in length a.line.now ≤ length a.numbers.now
-short_of c = omega (arith, (full_of c).if-line-gt1000.false, (start_of (asked_of c)).requires)
+short_of : (c : After-read_line-words) → let a = c.args in length a.line.now ≤ length a.numbers.now
+short_of c = omega (arith, c.if-line-gt1000.false, c.requires)
 
 -- the line is a word and numbers
 abbrev read_at : Else-words-eq0 → After-read_line-words
 read_at c = (goal.at.Else-words-eq0 c).After-read_line-words
 
-fits_of : (c : Else-words-eq0) → (read_at c).read_line-words.result.count ≤ length (read_at c).read_line-words.new.numbers
+fits_of : (c : Else-words-eq0) →
+    c.read_line-words.result.count ≤ length c.read_line-words.new.numbers
 fits_of c =
     let r = read_at c in
-    let a = (start_of (asked_of r)).args in
+    let a = r.args in
     omega (
       arith,
       count_fits a.line.now a.numbers.now _ r.read_line-words.ensures.value (short_of r) c.if-words-eq0.false,
@@ -83,32 +88,29 @@ fits_of c =
 
 pub returns-then-is_comment : goal.returns-then-is_comment
 returns-then-is_comment c =
-    let d = (goal.at.returns-then-is_comment c).After-is_comment in
-    let a = (start_of d).args in
-    ap (λ (m : Maker). progress m a.file.now) d.after_line-next.ensures
-    ∙ line_comment a.m a.file.now a.line.now (sym d.is_comment.ensures ∙ c.if-is_comment.true)
+    let a = c.args in
+    ap (λ (m : Maker). progress m a.file.now) c.after_line-next.ensures
+    ∙ line_comment a.m a.file.now a.line.now (sym c.is_comment.ensures ∙ c.if-is_comment.true)
 
 pub returns-then-line-gt1000 : goal.returns-then-line-gt1000
 returns-then-line-gt1000 c =
     let e = (goal.at.returns-then-line-gt1000 c).Else-is_comment in
-    let a = (start_of (goal.at.Else-is_comment e).After-is_comment).args in
+    let a = e.args in
     fault_of (goal.at.Else-is_comment e).After-is_comment _ 1 c.settle.ensures
     ∙ line_long a.m a.file.now a.line.now (read_of e) c.if-line-gt1000.true
 
 pub returns-then-is_empty : goal.returns-then-is_empty
 returns-then-is_empty c =
-    let f = (goal.at.returns-then-is_empty c).Else-line-gt1000 in
-    let d = (goal.at.Else-line-gt1000 f).After-is_comment in
-    let a = (start_of d).args in
-    ap (λ (m : Maker). progress m a.file.now) d.after_line-next.ensures
-    ∙ line_empty a.m a.file.now a.line.now (read_of (goal.at.Else-line-gt1000 f).Else-is_comment) f.if-line-gt1000.false
-    (sym c.is_empty.ensures ∙ c.if-is_empty.true)
+    let a = c.args in
+    let read = read_of (goal.at.returns-then-is_empty c).Else-is_comment in
+    ap (λ (m : Maker). progress m a.file.now) c.after_line-next.ensures
+    ∙ line_empty a.m a.file.now a.line.now read c.if-line-gt1000.false (sym c.is_empty.ensures ∙ c.if-is_empty.true)
 
 pub returns-then-words-eq0 : goal.returns-then-words-eq0
 returns-then-words-eq0 c =
     let r = (goal.at.returns-then-words-eq0 c).After-read_line-words in
-    let a = (start_of (asked_of r)).args in
-    fault_of (asked_of r) _ 2 c.settle-then-words-eq0.ensures
+    let a = r.args in
+    fault_of (goal.at.returns-then-words-eq0 c).After-is_comment _ 2 c.settle-then-words-eq0.ensures
     ∙ content_other (counted_so a.m a.file.now a.line.now) a.line.now
     (wordless a.line.now a.numbers.now _ r.read_line-words.ensures.value (short_of r) c.if-words-eq0.true)
     ∙ content_of (full_of r)
@@ -117,34 +119,32 @@ pub slice_bounds-take_words-end : goal.slice_bounds-take_words-end
 slice_bounds-take_words-end c = fits_of c
 
 pub slice_bounds-take_words-end-2 : goal.slice_bounds-take_words-end-2
-slice_bounds-take_words-end-2 c = sym (length-take-le _ _ (fits_of (goal.at.slice_bounds-take_words-end-2 c).Else-words-eq0))
+slice_bounds-take_words-end-2 c =
+    sym (length-take-le _ _ (fits_of (goal.at.slice_bounds-take_words-end-2 c).Else-words-eq0))
 
 pub take_words-requires : goal.take_words-requires
 take_words-requires c =
-    let r = read_at (goal.at.take_words-requires c).Else-words-eq0 in
-    let a = (start_of (asked_of r)).args in
     omega (
       arith,
-      read_within a.line.now a.numbers.now,
-      ap (λ (w : Words). w.word) r.read_line-words.ensures.value,
+      read_within c.args.line.now c.args.numbers.now,
+      ap (λ (w : Words). w.word) c.read_line-words.ensures.value,
     )
 
 pub returns : goal.returns
 returns c =
-    let w = (goal.at.returns c).After-take_words in
-    let d = (goal.at.After-take_words w).Else-words-eq0 in
-    let r = read_at d in
-    let q = asked_of r in
-    let a = (start_of q).args in
+    let r = (goal.at.returns c).After-read_line-words in
+    let a = c.args in
     let line = a.line.now in
     let s = counted_so a.m a.file.now line in
-    let e = r.read_line-words.ensures in
-    w.take_words.ensures
-    ∙ ap (λ (m : Maker). words_taken (progress m a.file.now) line r.read_line-words.result.word
-    (take r.read_line-words.result.count r.read_line-words.new.numbers)) q.after_line-next.ensures
-    ∙ ap (λ (k : ℕ). words_taken s line k (take r.read_line-words.result.count r.read_line-words.new.numbers))
-    (word_is line a.numbers.now _ e.0 (short_of r) d.if-words-eq0.false)
+    let words = c.read_line-words in
+    let e = words.ensures in
+    let numbers = take words.result.count words.new.numbers in
+    let some = c.if-words-eq0.false in
+    c.take_words.ensures
+    ∙ ap (λ (m : Maker). words_taken (progress m a.file.now) line words.result.word numbers)
+    c.after_line-next.ensures
+    ∙ ap (λ (k : ℕ). words_taken s line k numbers) (word_is line a.numbers.now _ e.value (short_of r) some)
     ∙ ap (words_taken s line (length (word_in (bare line))))
-    (numbers_are line a.numbers.now _ e.0 (short_of r) d.if-words-eq0.false _ e.1)
-    ∙ content_words s line (worded line a.numbers.now _ e.0 (short_of r) d.if-words-eq0.false)
+    (numbers_are line a.numbers.now _ e.value (short_of r) some _ e.numbers_after)
+    ∙ content_words s line (worded line a.numbers.now _ e.value (short_of r) some)
     ∙ content_of (full_of r)

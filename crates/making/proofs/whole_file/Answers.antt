@@ -4,9 +4,8 @@ use mathlib.Core.Path.{◌≡◌, refl, sym, ◌∙◌}
 use borrow.Author.Tests.{eq-eqb, ne_eqb, lt-ltb, le-ltb}
 use Rattle.sizes.specs.Sizes.{size_refusal}
 use Rattle.making.specs.Text.{whole_file}
-use borrow.Author.Rules.{rules}
 use Rattle.making.proofs.whole_file.Goals as goal
-use Rattle.making.proofs.whole_file.Goals.{After-file_bytes-size, Else-refusal-ne0}
+use Rattle.making.proofs.whole_file.Goals.{Else-refusal-ne0}
 
 -- n and t pass
 passes : (c : Else-refusal-ne0) → let m = c.args.m in size_refusal m.n m.t ≡ 0
@@ -21,12 +20,12 @@ returns-then-refusal-ne0 c =
 pub returns-then-room-size : goal.returns-then-room-size
 unfolding whole_file
 returns-then-room-size c =
-    let f = (goal.at.returns-then-room-size c).After-file_bytes-size in
+    let pass = passes (goal.at.returns-then-room-size c).Else-refusal-ne0 in
     c.refused_as-then-room-size.ensures
-    ∙ rw (eq-eqb _ 0 (passes (goal.at.After-file_bytes-size f).Else-refusal-ne0), ← f.file_bytes-size.ensures, lt-ltb _ _ c.if-room-size.true) refl
+    ∙ rw (eq-eqb _ 0 pass, ← c.file_bytes-size.ensures, lt-ltb _ _ c.if-room-size.true) refl
 
 pub returns : goal.returns
 unfolding whole_file
 returns c =
-    let f = (goal.at.returns c).After-file_bytes-size in
-    rw (eq-eqb _ 0 (passes (goal.at.After-file_bytes-size f).Else-refusal-ne0), ← f.file_bytes-size.ensures, le-ltb _ _ c.if-room-size.false) refl
+    let pass = passes (goal.at.returns c).Else-refusal-ne0 in
+    rw (eq-eqb _ 0 pass, ← c.file_bytes-size.ensures, le-ltb _ _ c.if-room-size.false) refl

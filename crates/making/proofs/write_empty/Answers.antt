@@ -7,42 +7,48 @@ use lib.ListN.{length}
 use Rattle.runfile.specs.declared.write.Wrote.{Wrote}
 use Rattle.runfile.specs.File.{heading_bytes}
 use Rattle.runfile.specs.Write.{write_heading_refusal}
-use Rattle.runfile.proofs.Written.{write_heading_accepted, write_heading_number, write_heading_leaves, write_heading_size, write_heading_length}
+use Rattle.runfile.proofs.Written.{
+  write_heading_accepted,
+  write_heading_number,
+  write_heading_leaves,
+  write_heading_size,
+  write_heading_length,
+}
 use Rattle.making.proofs.Files.{heading_cleared}
-use borrow.Author.Rules.{rules}
 use Rattle.making.proofs.write_empty.Goals as goal
-use Rattle.making.proofs.write_empty.Goals.{After-write_heading-wrote, Else-wrote-ne0, Start}
+use Rattle.making.proofs.write_empty.Goals.{After-write_heading-wrote, Else-wrote-ne0}
 
 -- the refusal is the heading's
-number_of : (c : After-write_heading-wrote) → let a = c.args in c.write_heading-wrote.result.refusal ≡ write_heading_refusal a.m.n a.m.t a.m.faulty a.rows.now (length a.file.now)
+number_of : (c : After-write_heading-wrote) →
+    let a = c.args in
+    c.write_heading-wrote.result.refusal
+    ≡ write_heading_refusal a.m.n a.m.t a.m.faulty a.rows.now (length a.file.now)
 number_of c =
     let a = c.args in
     ap (λ (r : Wrote). r.refusal) c.write_heading-wrote.ensures.value
     ∙ write_heading_number a.m.n a.m.t a.m.faulty a.rows.now a.file.now
 
 -- where the heading stands
-abbrev heading_of_lem : Else-wrote-ne0 → After-write_heading-wrote
-heading_of_lem c = (goal.at.Else-wrote-ne0 c).After-write_heading-wrote
+abbrev heading_at : Else-wrote-ne0 → After-write_heading-wrote
+heading_at c = (goal.at.Else-wrote-ne0 c).After-write_heading-wrote
 
-abbrev start_of : Else-wrote-ne0 → Start
-start_of c = (goal.at.After-write_heading-wrote (heading_of_lem c)).Start
+none : (c : Else-wrote-ne0) →
+    let a = c.args in write_heading_refusal a.m.n a.m.t a.m.faulty a.rows.now (length a.file.now) ≡ 0
+none c = sym (number_of (heading_at c)) ∙ c.if-wrote-ne0.false
 
-none : (c : Else-wrote-ne0) → let a = (start_of c).args in write_heading_refusal a.m.n a.m.t a.m.faulty a.rows.now (length a.file.now) ≡ 0
-none c = sym (number_of (heading_of_lem c)) ∙ c.if-wrote-ne0.false
-
-size_of : (c : Else-wrote-ne0) → (heading_of_lem c).write_heading-wrote.result.size ≡ heading_bytes (start_of c).args.m.n
+size_of : (c : Else-wrote-ne0) → (heading_at c).write_heading-wrote.result.size ≡ heading_bytes c.args.m.n
 size_of c =
-    let a = (start_of c).args in
-    ap (λ (r : Wrote). r.size) (heading_of_lem c).write_heading-wrote.ensures.value
+    let a = c.args in
+    ap (λ (r : Wrote). r.size) (heading_at c).write_heading-wrote.ensures.value
     ∙ write_heading_size a.m.n a.m.t a.m.faulty a.rows.now a.file.now (none c)
 
-long_of : (c : Else-wrote-ne0) → length (heading_of_lem c).write_heading-wrote.new.out ≡ length (start_of c).args.file.now
+long_of : (c : Else-wrote-ne0) → length (heading_at c).write_heading-wrote.new.out ≡ length c.args.file.now
 long_of c =
-    let a = (start_of c).args in
-    ap length (heading_of_lem c).write_heading-wrote.ensures.out_after
+    let a = c.args in
+    ap length (heading_at c).write_heading-wrote.ensures.out_after
     ∙ write_heading_length a.m.n a.m.t a.m.faulty a.rows.now a.file.now
 
-room_of : (c : Else-wrote-ne0) → heading_bytes (start_of c).args.m.n ≤ length (start_of c).args.file.now
+room_of : (c : Else-wrote-ne0) → heading_bytes c.args.m.n ≤ length c.args.file.now
 room_of c = (write_heading_accepted _ _ _ _ _ (none c)).enough
 
 pub returns-then-wrote-ne0 : goal.returns-then-wrote-ne0
@@ -66,10 +72,10 @@ slice_bounds-clear-start c = omega (arith, size_of c, room_of c, long_of c)
 pub returns : goal.returns
 returns c =
     let d = (goal.at.returns c).Else-wrote-ne0 in
-    let a = (start_of d).args in (
+    let a = d.args in (
       sym (none d),
       λ z.
-          heading_cleared a.m a.rows.now a.file.now _ _ _ (none d) (heading_of_lem d).write_heading-wrote.ensures.out_after
-          (size_of d) c.clear.ensures (start_of d).requires,
+          heading_cleared a.m a.rows.now a.file.now _ _ _ (none d)
+          c.write_heading-wrote.ensures.out_after (size_of d) c.clear.ensures d.requires,
       λ some. absurd (some refl),
     )

@@ -1,14 +1,11 @@
 -- `runfile::has_sound_zero` meets its contract: a turn ends the search where box k is sound and its row is 0, and
 -- otherwise none of the first k + 1 boxes is such. What is left of n falls. Assumes nothing.
 use mathlib.Core.Path.{◌≡◌, sym, ap, ◌∙◌}
-use mathlib.Core.Bool.{Bool, ◌&&◌}
-use mathlib.Core.List.{List}
-use Prim.Native.Nat.{ℕ, ◌-◌}
+use mathlib.Core.Bool.{◌&&◌}
+use Prim.Native.Nat.{ℕ}
 use native.Mathlib.Omega.{arith}
 use lib.Dec.{eqb}
-use lib.ListN.{get_or}
-use Rattle.counting.specs.Count.{build}
-use Rattle.counting.proofs.Loops.{NoneYet, search_begins, search_turn, search_hits, search_ends}
+use Rattle.counting.proofs.Loops.{search_begins, search_turn, search_hits, search_ends}
 use Rattle.counting.proofs.Build.{get_or_build}
 use Rattle.sizes.specs.Sizes.{sound, sound_zero}
 use Rattle.sizes.proofs.Laws.{inside_high}
@@ -16,19 +13,17 @@ use Rattle.runfile.specs.File.{heading_row, row_from, heading_bytes}
 use borrow.Author.Rules.{rules}
 use Rattle.runfile.proofs.has_sound_zero.Invariants.{zero_at}
 use Rattle.runfile.proofs.has_sound_zero.Goals as goal
-use Rattle.runfile.proofs.has_sound_zero.Goals.{After-is_sound_zero, After-shared_slice_known-1, Start}
+use Rattle.runfile.proofs.has_sound_zero.Goals.{After-is_sound_zero}
 
 -- the test at box k, made of its row in the heading
-abbrev start_of : After-is_sound_zero → Start
-start_of c = (goal.at.After-is_sound_zero c).Start
-
 abbrev box_of : After-is_sound_zero → ℕ
 box_of c = c.loop-k.k
 
-at_box : (c : After-is_sound_zero) → let a = (start_of c).args in c.is_sound_zero.result ≡ zero_at a.bytes.now a.n a.faulty (box_of c)
+at_box : (c : After-is_sound_zero) →
+    let a = c.args in c.is_sound_zero.result ≡ zero_at a.bytes.now a.n a.faulty (box_of c)
 unfolding heading_row row_from
 at_box c =
-    let a = (start_of c).args in
+    let a = c.args in
     let k = box_of c in
     let row = get_or_build a.n (heading_row a.bytes.now) k 0 (search rules) in
     c.is_sound_zero.ensures
@@ -50,14 +45,18 @@ unfolding heading_bytes
 number8-requires c = omega arith
 
 pub is_sound_zero-requires : goal.is_sound_zero-requires
-is_sound_zero-requires c = let s = (goal.at.is_sound_zero-requires c).After-shared_slice_known-1 in omega (arith, inside_high _ s.requires.0)
+is_sound_zero-requires c = omega (arith, inside_high _ c.requires.0)
 
 pub returns-then-is_sound_zero : goal.returns-then-is_sound_zero
 unfolding sound_zero
-returns-then-is_sound_zero c = search_hits _ (search rules) (at_box (goal.at.returns-then-is_sound_zero c).After-is_sound_zero) c.if-is_sound_zero.true
+returns-then-is_sound_zero c =
+    let at = at_box (goal.at.returns-then-is_sound_zero c).After-is_sound_zero in
+    search_hits _ (search rules) at c.if-is_sound_zero.true
 
 pub loop-k-preserved : goal.loop-k-preserved
-loop-k-preserved c = search_turn _ (search rules) (search rules) (at_box (goal.at.loop-k-preserved c).After-is_sound_zero) c.if-is_sound_zero.false
+loop-k-preserved c =
+    let at = at_box (goal.at.loop-k-preserved c).After-is_sound_zero in
+    search_turn _ (search rules) (search rules) at c.if-is_sound_zero.false
 
 pub returns : goal.returns
 unfolding sound_zero

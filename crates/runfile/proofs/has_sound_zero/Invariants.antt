@@ -1,19 +1,14 @@
 -- `runfile::has_sound_zero` meets its contract: a turn ends the search where box k is sound and its row is 0, and
 -- otherwise none of the first k + 1 boxes is such. What is left of n falls. Assumes nothing.
-use mathlib.Core.Path.{◌≡◌, sym, ap, ◌∙◌}
 use mathlib.Core.Bool.{Bool, ◌&&◌}
 use mathlib.Core.List.{List}
 use Prim.Native.Nat.{ℕ, ◌-◌}
-use native.Mathlib.Omega.{arith}
 use lib.Dec.{eqb}
 use lib.ListN.{get_or}
 use Rattle.counting.specs.Count.{build}
-use Rattle.counting.proofs.Loops.{NoneYet, search_begins, search_turn, search_hits, search_ends}
-use Rattle.counting.proofs.Build.{get_or_build}
-use Rattle.sizes.specs.Sizes.{sound, sound_zero}
-use Rattle.sizes.proofs.Laws.{inside_high}
-use Rattle.runfile.specs.File.{heading_row, row_from, heading_bytes}
-use borrow.Author.Rules.{rules}
+use Rattle.counting.proofs.Loops.{NoneYet}
+use Rattle.sizes.specs.Sizes.{sound}
+use Rattle.runfile.specs.File.{heading_row}
 use Rattle.runfile.proofs.has_sound_zero.Given as goal
 
 -- is box j sound, and its row 0?

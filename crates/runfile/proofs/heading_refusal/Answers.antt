@@ -17,101 +17,91 @@ use Rattle.runfile.specs.File.{version_of, n_of, t_byte, faulty_of, heading_byte
 use Rattle.runfile.specs.Reply.{heading_tests, heading_refusal}
 use borrow.Author.Rules.{rules}
 use Rattle.runfile.proofs.heading_refusal.Goals as goal
-use Rattle.runfile.proofs.heading_refusal.Goals.{After-has_sound_zero, After-is_stray, After-number2-faulty, Else-bytes-lt9, Else-bytes-n, Else-has_sound_zero, Else-is_outside, Else-is_stray, Else-is_too_many, Else-not-is_marked, Else-number2-ne1, Start}
+use Rattle.runfile.proofs.heading_refusal.Goals.{
+  After-has_sound_zero,
+  After-is_stray,
+  Else-bytes-lt9,
+  Else-bytes-n,
+  Else-has_sound_zero,
+  Else-is_outside,
+  Else-is_stray,
+  Else-is_too_many,
+  Else-not-is_marked,
+  Else-number2-ne1,
+}
 
--- the way back to the start from behind each test that was passed
-abbrev start_1 : Else-bytes-lt9 → Start
-start_1 c = (goal.at.Else-bytes-lt9 c).Start
-
-abbrev start_2 : Else-not-is_marked → Start
-start_2 c = start_1 (goal.at.Else-not-is_marked c).Else-bytes-lt9
-
-abbrev start_3 : Else-number2-ne1 → Start
-start_3 c = start_2 (goal.at.Else-number2-ne1 c).Else-not-is_marked
-
-abbrev start_4 : Else-is_outside → Start
-start_4 c = start_3 (goal.at.Else-is_outside c).Else-number2-ne1
-
-abbrev start_5 : Else-is_too_many → Start
-start_5 c = start_4 (goal.at.Else-is_too_many c).Else-is_outside
-
-abbrev start_6 : Else-is_stray → Start
-start_6 c = start_5 (goal.at.Else-is_stray c).Else-is_too_many
-
-abbrev start_7 : Else-bytes-n → Start
-start_7 c = start_6 (goal.at.Else-bytes-n c).Else-is_stray
-
-abbrev start_8 : Else-has_sound_zero → Start
-start_8 c = start_7 (goal.at.Else-has_sound_zero c).Else-bytes-n
-
-abbrev bytes_of : Start → List ℕ
-bytes_of s = s.args.bytes.now
-
-abbrev n_of_lem : Start → ℕ
-n_of_lem s = get_or (bytes_of s) 5 0
+-- the byte of n
+abbrev n_byte : List ℕ → ℕ
+n_byte bytes = get_or bytes 5 0
 
 -- the tests up to a place of the list are passed
-abbrev Passed : Start → ℕ → Type 0
-Passed s k =
-    heading_refusal (bytes_of s) s.args.room ≡ first_of (drop k (heading_tests (bytes_of s) s.args.room))
+abbrev Passed : List ℕ → ℕ → ℕ → Type 0
+Passed bytes room k = heading_refusal bytes room ≡ first_of (drop k (heading_tests bytes room))
 
-passed_1 : (c : Else-bytes-lt9) → Passed (start_1 c) 1
+passed_1 : (c : Else-bytes-lt9) → Passed c.args.bytes.now c.args.room 1
 unfolding heading_refusal heading_tests
 passed_1 c = passed 1 _ (le-ltb _ _ c.if-bytes-lt9.false)
 
-passed_2 : (c : Else-not-is_marked) → Passed (start_2 c) 2
+passed_2 : (c : Else-not-is_marked) → Passed c.args.bytes.now c.args.room 2
 unfolding heading_tests
-passed_2 c = passed_1 (goal.at.Else-not-is_marked c).Else-bytes-lt9 ∙ passed 2 _ (ap not (sym c.is_marked.ensures) ∙ c.if-not-is_marked.false)
+passed_2 c =
+    passed_1 (goal.at.Else-not-is_marked c).Else-bytes-lt9
+    ∙ passed 2 _ (ap not (sym c.is_marked.ensures ∙ c.if-not-is_marked.false))
 
-passed_3 : (c : Else-number2-ne1) → Passed (start_3 c) 3
+passed_3 : (c : Else-number2-ne1) → Passed c.args.bytes.now c.args.room 3
 unfolding heading_tests version_of
 passed_3 c =
     passed_2 (goal.at.Else-number2-ne1 c).Else-not-is_marked
     ∙ passed 3 _ (not_of_true (eq-eqb _ _ (sym c.number2.ensures.0 ∙ c.if-number2-ne1.false)))
 
-inside_of : (c : Else-is_outside) → outside (n_of_lem (start_4 c)) ≡ false
+inside_of : (c : Else-is_outside) → outside (n_byte c.args.bytes.now) ≡ false
 inside_of c = sym c.is_outside.ensures ∙ c.if-is_outside.false
 
-passed_4 : (c : Else-is_outside) → Passed (start_4 c) 4
+passed_4 : (c : Else-is_outside) → Passed c.args.bytes.now c.args.room 4
 unfolding heading_tests n_of
 passed_4 c = passed_3 (goal.at.Else-is_outside c).Else-number2-ne1 ∙ passed 4 _ (inside_of c)
 
-passed_5 : (c : Else-is_too_many) → Passed (start_5 c) 5
+passed_5 : (c : Else-is_too_many) → Passed c.args.bytes.now c.args.room 5
 unfolding heading_tests n_of t_byte
-passed_5 c = passed_4 (goal.at.Else-is_too_many c).Else-is_outside ∙ passed 5 _ (sym c.is_too_many.ensures ∙ c.if-is_too_many.false)
+passed_5 c =
+    passed_4 (goal.at.Else-is_too_many c).Else-is_outside
+    ∙ passed 5 _ (sym c.is_too_many.ensures ∙ c.if-is_too_many.false)
 
 -- the faulty set is the number that was read
-stray_of : (c : After-is_stray) → stray (n_of_lem (start_5 (goal.at.After-is_stray c).Else-is_too_many)) (faulty_of (bytes_of (start_5 (goal.at.After-is_stray c).Else-is_too_many))) ≡ c.is_stray.result
+stray_of : (c : After-is_stray) →
+    stray (n_byte c.args.bytes.now) (faulty_of c.args.bytes.now) ≡ c.is_stray.result
 unfolding faulty_of
 stray_of c = ap (stray _) (sym c.number2-faulty.ensures.0) ∙ sym c.is_stray.ensures
 
-passed_6 : (c : Else-is_stray) → Passed (start_6 c) 6
+passed_6 : (c : Else-is_stray) → Passed c.args.bytes.now c.args.room 6
 unfolding heading_tests n_of
-passed_6 c = passed_5 (goal.at.Else-is_stray c).Else-is_too_many ∙ passed 6 _ (stray_of (goal.at.Else-is_stray c).After-is_stray ∙ c.if-is_stray.false)
+passed_6 c =
+    passed_5 (goal.at.Else-is_stray c).Else-is_too_many
+    ∙ passed 6 _ (stray_of (goal.at.Else-is_stray c).After-is_stray ∙ c.if-is_stray.false)
 
-passed_8 : (c : Else-bytes-n) → Passed (start_7 c) 7
+passed_8 : (c : Else-bytes-n) → Passed c.args.bytes.now c.args.room 7
 unfolding heading_tests n_of heading_bytes
 passed_8 c = passed_6 (goal.at.Else-bytes-n c).Else-is_stray ∙ passed 8 _ (le-ltb _ _ c.if-bytes-n.false)
 
-zero_of : (c : After-has_sound_zero) → sound_zero (n_of_lem (start_7 (goal.at.After-has_sound_zero c).Else-bytes-n)) (faulty_of (bytes_of (start_7 (goal.at.After-has_sound_zero c).Else-bytes-n))) (build (n_of_lem (start_7 (goal.at.After-has_sound_zero c).Else-bytes-n)) (heading_row (bytes_of (start_7 (goal.at.After-has_sound_zero c).Else-bytes-n)))) ≡ c.has_sound_zero.result
+zero_of : (c : After-has_sound_zero) →
+    let bytes = c.args.bytes.now in
+    let n = n_byte bytes in
+    sound_zero n (faulty_of bytes) (build n (heading_row bytes)) ≡ c.has_sound_zero.result
 unfolding faulty_of
 zero_of c =
-    let s = start_7 (goal.at.After-has_sound_zero c).Else-bytes-n in
-    let set = (goal.at.After-has_sound_zero c).After-number2-faulty in
-    ap (λ (faulty : ℕ). sound_zero (n_of_lem s) faulty (build (n_of_lem s) (heading_row (bytes_of s))))
-    (sym set.number2-faulty.ensures.0)
+    let bytes = c.args.bytes.now in
+    let n = n_byte bytes in
+    ap (λ (faulty : ℕ). sound_zero n faulty (build n (heading_row bytes))) (sym c.number2-faulty.ensures.0)
     ∙ sym c.has_sound_zero.ensures
 
-passed_9 : (c : Else-has_sound_zero) → Passed (start_8 c) 8
+passed_9 : (c : Else-has_sound_zero) → Passed c.args.bytes.now c.args.room 8
 unfolding heading_tests n_of
-passed_9 c = passed_8 (goal.at.Else-has_sound_zero c).Else-bytes-n ∙ passed 9 _ (zero_of (goal.at.Else-has_sound_zero c).After-has_sound_zero ∙ c.if-has_sound_zero.false)
+passed_9 c =
+    passed_8 (goal.at.Else-has_sound_zero c).Else-bytes-n
+    ∙ passed 9 _ (zero_of (goal.at.Else-has_sound_zero c).After-has_sound_zero ∙ c.if-has_sound_zero.false)
 
--- where 4 was passed, from where 6 is
-abbrev fourth : Else-is_stray → Else-is_outside
-fourth c = (goal.at.Else-is_stray c).Else-is_outside
-
-n_high : (c : Else-is_stray) → n_of_lem (start_6 c) ≤ 13
-n_high c = inside_high _ (inside_of (fourth c))
+n_high : (c : Else-is_stray) → n_byte c.args.bytes.now ≤ 13
+n_high c = inside_high _ (inside_of (goal.at.Else-is_stray c).Else-is_outside)
 
 pub returns-then-bytes-lt9 : goal.returns-then-bytes-lt9
 unfolding heading_refusal heading_tests
@@ -120,7 +110,8 @@ returns-then-bytes-lt9 c = sym (refused 1 _ (lt-ltb _ _ c.if-bytes-lt9.true))
 pub returns-then-not-is_marked : goal.returns-then-not-is_marked
 unfolding heading_tests
 returns-then-not-is_marked c =
-    sym (passed_1 (goal.at.returns-then-not-is_marked c).Else-bytes-lt9 ∙ refused 2 _ (ap not (sym c.is_marked.ensures) ∙ c.if-not-is_marked.true))
+    sym (passed_1 (goal.at.returns-then-not-is_marked c).Else-bytes-lt9
+    ∙ refused 2 _ (ap not (sym c.is_marked.ensures ∙ c.if-not-is_marked.true)))
 
 pub returns-then-number2-ne1 : goal.returns-then-number2-ne1
 unfolding heading_tests version_of
@@ -131,7 +122,8 @@ returns-then-number2-ne1 c =
 pub returns-then-is_outside : goal.returns-then-is_outside
 unfolding heading_tests n_of
 returns-then-is_outside c =
-    sym (passed_3 (goal.at.returns-then-is_outside c).Else-number2-ne1 ∙ refused 4 _ (sym c.is_outside.ensures ∙ c.if-is_outside.true))
+    sym (passed_3 (goal.at.returns-then-is_outside c).Else-number2-ne1
+    ∙ refused 4 _ (sym c.is_outside.ensures ∙ c.if-is_outside.true))
 
 pub is_too_many-requires : goal.is_too_many-requires
 is_too_many-requires c = inside_of (goal.at.is_too_many-requires c).Else-is_outside
@@ -139,11 +131,14 @@ is_too_many-requires c = inside_of (goal.at.is_too_many-requires c).Else-is_outs
 pub returns-then-is_too_many : goal.returns-then-is_too_many
 unfolding heading_tests n_of t_byte
 returns-then-is_too_many c =
-    sym (passed_4 (goal.at.returns-then-is_too_many c).Else-is_outside ∙ refused 5 _ (sym c.is_too_many.ensures ∙ c.if-is_too_many.true))
+    sym (passed_4 (goal.at.returns-then-is_too_many c).Else-is_outside
+    ∙ refused 5 _ (sym c.is_too_many.ensures ∙ c.if-is_too_many.true))
 
 pub returns-then-is_stray : goal.returns-then-is_stray
 unfolding heading_tests n_of
-returns-then-is_stray c = sym (passed_5 (goal.at.returns-then-is_stray c).Else-is_too_many ∙ refused 6 _ (stray_of (goal.at.returns-then-is_stray c).After-is_stray ∙ c.if-is_stray.true))
+returns-then-is_stray c =
+    sym (passed_5 (goal.at.returns-then-is_stray c).Else-is_too_many
+    ∙ refused 6 _ (stray_of (goal.at.returns-then-is_stray c).After-is_stray ∙ c.if-is_stray.true))
 
 pub overflow_cast-n : goal.overflow_cast-n
 overflow_cast-n c = omega (arith, n_high c)
@@ -156,20 +151,28 @@ overflow_add-n c = omega (arith, n_high c)
 
 pub returns-then-bytes-n : goal.returns-then-bytes-n
 unfolding heading_tests n_of heading_bytes
-returns-then-bytes-n c = sym (passed_6 (goal.at.returns-then-bytes-n c).Else-is_stray ∙ refused 8 _ (lt-ltb _ _ c.if-bytes-n.true))
+returns-then-bytes-n c =
+    sym (passed_6 (goal.at.returns-then-bytes-n c).Else-is_stray ∙ refused 8 _ (lt-ltb _ _ c.if-bytes-n.true))
 
 pub has_sound_zero-requires : goal.has_sound_zero-requires
 unfolding heading_bytes
-has_sound_zero-requires c = (inside_of (fourth (goal.at.has_sound_zero-requires c).Else-is_stray), search rules)
+has_sound_zero-requires c =
+    (inside_of (goal.at.has_sound_zero-requires c).Else-is_outside, search rules)
 
 pub returns-then-has_sound_zero : goal.returns-then-has_sound_zero
 unfolding heading_tests n_of
-returns-then-has_sound_zero c = sym (passed_8 (goal.at.returns-then-has_sound_zero c).Else-bytes-n ∙ refused 9 _ (zero_of (goal.at.returns-then-has_sound_zero c).After-has_sound_zero ∙ c.if-has_sound_zero.true))
+returns-then-has_sound_zero c =
+    let zero = zero_of (goal.at.returns-then-has_sound_zero c).After-has_sound_zero in
+    sym (passed_8 (goal.at.returns-then-has_sound_zero c).Else-bytes-n
+    ∙ refused 9 _ (zero ∙ c.if-has_sound_zero.true))
 
 pub returns-then-room-n : goal.returns-then-room-n
 unfolding heading_tests n_of
-returns-then-room-n c = sym (passed_9 (goal.at.returns-then-room-n c).Else-has_sound_zero ∙ refused 10 _ (lt-ltb _ _ c.if-room-n.true))
+returns-then-room-n c =
+    sym (passed_9 (goal.at.returns-then-room-n c).Else-has_sound_zero
+    ∙ refused 10 _ (lt-ltb _ _ c.if-room-n.true))
 
 pub returns : goal.returns
 unfolding heading_tests n_of first_of
-returns c = sym (passed_9 (goal.at.returns c).Else-has_sound_zero ∙ passed 10 [] (le-ltb _ _ c.if-room-n.false))
+returns c =
+    sym (passed_9 (goal.at.returns c).Else-has_sound_zero ∙ passed 10 [] (le-ltb _ _ c.if-room-n.false))

@@ -1,40 +1,38 @@
 -- `runfile::is_marked` meets its contract: it makes the three tests in their order. Assumes nothing.
 use mathlib.Core.Path.{◌≡◌}
 use mathlib.Core.Bool.{true}
+use mathlib.Core.List.{List}
 use Prim.Native.Nat.{ℕ}
 use native.Mathlib.Omega.{arith}
 use lib.Dec.{eqb}
 use lib.ListN.{get_or}
 use borrow.Author.Tests.{eq-eqb, ne_eqb}
 use Rattle.runfile.specs.File.{has_mark}
-use borrow.Author.Rules.{rules}
 use Rattle.runfile.proofs.is_marked.Goals as goal
-use Rattle.runfile.proofs.is_marked.Goals.{Else-bytes-ne72, Else-bytes-ne78, Start}
+use Rattle.runfile.proofs.is_marked.Goals.{Else-bytes-ne72, Else-bytes-ne78}
 
 -- a byte of those that were lent
-abbrev byte : Start → ℕ → ℕ
-byte s k = get_or s.args.bytes.now k 0
+abbrev byte : List ℕ → ℕ → ℕ
+byte bytes k = get_or bytes k 0
 
 -- where the first byte is the mark's
-abbrev start_of : Else-bytes-ne72 → Start
-start_of c = (goal.at.Else-bytes-ne72 c).Start
-
-is_h : (c : Else-bytes-ne72) → eqb (byte (start_of c) 0) 72 ≡ true
-is_h c = eq-eqb (byte (start_of c) 0) 72 (omega (arith, c.if-bytes-ne72.false))
+is_h : (c : Else-bytes-ne72) → eqb (byte c.args.bytes.now 0) 72 ≡ true
+is_h c = eq-eqb (byte c.args.bytes.now 0) 72 (omega (arith, c.if-bytes-ne72.false))
 
 -- and where the second is
-is_n : (c : Else-bytes-ne78) → eqb (byte (start_of (goal.at.Else-bytes-ne78 c).Else-bytes-ne72) 1) 78 ≡ true
-is_n c = eq-eqb (byte (start_of (goal.at.Else-bytes-ne78 c).Else-bytes-ne72) 1) 78 (omega (arith, c.if-bytes-ne78.false))
+is_n : (c : Else-bytes-ne78) → eqb (byte c.args.bytes.now 1) 78 ≡ true
+is_n c = eq-eqb (byte c.args.bytes.now 1) 78 (omega (arith, c.if-bytes-ne78.false))
 
 pub returns-then-bytes-ne72 : goal.returns-then-bytes-ne72
 unfolding has_mark
-returns-then-bytes-ne72 c = rw (ne_eqb (byte (goal.at.returns-then-bytes-ne72 c).Start 0) 72 (λ e. absurd (omega (arith, e, c.if-bytes-ne72.true))))
+returns-then-bytes-ne72 c =
+    rw (ne_eqb (byte c.args.bytes.now 0) 72 (λ e. absurd (omega (arith, e, c.if-bytes-ne72.true))))
 
 pub returns-then-bytes-ne78 : goal.returns-then-bytes-ne78
 unfolding has_mark
 returns-then-bytes-ne78 c =
     let h = (goal.at.returns-then-bytes-ne78 c).Else-bytes-ne72 in
-    rw (is_h h, ne_eqb (byte (start_of h) 1) 78 (λ e. absurd (omega (arith, e, c.if-bytes-ne78.true))))
+    rw (is_h h, ne_eqb (byte c.args.bytes.now 1) 78 (λ e. absurd (omega (arith, e, c.if-bytes-ne78.true))))
 
 pub returns : goal.returns
 unfolding has_mark

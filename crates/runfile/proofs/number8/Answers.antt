@@ -2,7 +2,6 @@
 -- in the last 4. Assumes nothing.
 use native.Mathlib.Omega.{arith}
 use Rattle.runfile.proofs.Numbers.{number_split}
-use borrow.Author.Rules.{rules}
 use Rattle.runfile.proofs.number8.Goals as goal
 
 pub returns : goal.returns

@@ -2,45 +2,44 @@
 -- ends within them or not; so the test of refusal 8 is made without a sum that could be too large, and then that of
 -- 10. Assumes nothing.
 use mathlib.Core.Path.{sym, ◌∙◌}
-use mathlib.Core.List.{[]}
-use Prim.Native.Nat.{◌+◌, ◌*◌, ◌≤◌, ◌<◌}
+use mathlib.Core.List.{List, []}
+use Prim.Native.Nat.{ℕ, ◌+◌, ◌*◌, ◌≤◌, ◌<◌}
 use native.Mathlib.Omega.{arith}
 use lib.ListN.{length}
 use borrow.Author.Tests.{lt-ltb, le-ltb}
 use Rattle.counting.proofs.Refuse.{refused, passed, none_left}
 use Rattle.runfile.specs.Reply.{part_tests, part_refusal}
-use borrow.Author.Rules.{rules}
 use Rattle.runfile.proofs.part_refusal.Goals as goal
-use Rattle.runfile.proofs.part_refusal.Goals.{Else-whole-from-2, Start}
-
-abbrev start_of : Else-whole-from-2 → Start
-start_of c = (goal.at.Else-whole-from-2 c).Start
+use Rattle.runfile.proofs.part_refusal.Goals.{Else-whole-from-2}
 
 -- the bytes end before the part does
-abbrev Short : Start → Type 0
-Short s = length s.args.bytes.now < 8 * (s.args.from + s.args.count)
+abbrev Short : List ℕ → ℕ → ℕ → Type 0
+Short bytes from count = length bytes < 8 * (from + count)
 
 -- where both tests against the bytes were passed
-long_of : (c : Else-whole-from-2) → 8 * ((start_of c).args.from + (start_of c).args.count) ≤ length (start_of c).args.bytes.now
+long_of : (c : Else-whole-from-2) → 8 * (c.args.from + c.args.count) ≤ length c.args.bytes.now
 long_of c = omega arith
 
 pub returns-then-whole-from : goal.returns-then-whole-from
 unfolding part_refusal part_tests
 returns-then-whole-from c =
-    let short : Short (goal.at.returns-then-whole-from c).Start = omega arith in
+    let short : Short c.args.bytes.now c.args.from c.args.count = omega arith in
     sym (refused 8 _ (lt-ltb _ _ short))
 
 pub returns-then-whole-from-2 : goal.returns-then-whole-from-2
 unfolding part_refusal part_tests
 returns-then-whole-from-2 c =
-    let short : Short (goal.at.returns-then-whole-from-2 c).Start = omega arith in
+    let short : Short c.args.bytes.now c.args.from c.args.count = omega arith in
     sym (refused 8 _ (lt-ltb _ _ short))
 
 pub returns-then-room-from : goal.returns-then-room-from
 unfolding part_refusal part_tests
-returns-then-room-from c = sym (passed 8 _ (le-ltb _ _ (long_of (goal.at.returns-then-room-from c).Else-whole-from-2)) ∙ refused 10 _ (lt-ltb _ _ c.if-room-from.true))
+returns-then-room-from c =
+    let long = long_of (goal.at.returns-then-room-from c).Else-whole-from-2 in
+    sym (passed 8 _ (le-ltb _ _ long) ∙ refused 10 _ (lt-ltb _ _ c.if-room-from.true))
 
 pub returns : goal.returns
 unfolding part_refusal part_tests
 returns c =
-    sym (passed 8 _ (le-ltb _ _ (long_of (goal.at.returns c).Else-whole-from-2)) ∙ passed 10 [] (le-ltb _ _ c.if-room-from.false) ∙ none_left)
+    let long = long_of (goal.at.returns c).Else-whole-from-2 in
+    sym (passed 8 _ (le-ltb _ _ long) ∙ passed 10 [] (le-ltb _ _ c.if-room-from.false) ∙ none_left)

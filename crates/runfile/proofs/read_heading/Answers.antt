@@ -17,28 +17,20 @@ use Rattle.runfile.proofs.Laws.{
   heading_given,
   heading_written,
 }
-use borrow.Author.Rules.{rules}
 use Rattle.runfile.proofs.read_heading.Reads as Reads
 use Rattle.runfile.proofs.read_heading.Goals as goal
-use Rattle.runfile.proofs.read_heading.Goals.{After-heading_of-heading, After-slice_known-2-1, Else-refusal-ne0, Start}
+use Rattle.runfile.proofs.read_heading.Goals.{After-heading_of-heading, Else-refusal-ne0}
 
-abbrev start_of : Else-refusal-ne0 → Start
-start_of c = (goal.at.Else-refusal-ne0 c).Start
-
-none : (c : Else-refusal-ne0) → heading_refusal (start_of c).args.bytes.now (length (start_of c).args.rows.now) ≡ 0
+none : (c : Else-refusal-ne0) → heading_refusal c.args.bytes.now (length c.args.rows.now) ≡ 0
 none c = sym c.heading_refusal-refusal.ensures ∙ c.if-refusal-ne0.false
 
 -- what the heading passed
-read : (c : Else-refusal-ne0) → Readable (start_of c).args.bytes.now (length (start_of c).args.rows.now)
+read : (c : Else-refusal-ne0) → Readable c.args.bytes.now (length c.args.rows.now)
 read c = heading_readable _ _ (none c)
 
-n_of_lem : (c : After-heading_of-heading) → c.heading_of-heading.result.n ≡ n_of (start_of (goal.at.After-heading_of-heading c).Else-refusal-ne0).args.bytes.now
+n_of_lem : (c : After-heading_of-heading) → c.heading_of-heading.result.n ≡ n_of c.args.bytes.now
 unfolding heading_of
 n_of_lem c = ap (λ (h : Heading). h.n) c.heading_of-heading.ensures
-
--- where the heading is known, from where its rows are written
-abbrev known : After-slice_known-2-1 → After-heading_of-heading
-known c = (goal.at.After-slice_known-2-1 c).After-heading_of-heading
 
 -- the contract admits one reply, and one last contents of the slice
 pub only_one : (κs : _) (a : _) (r s : _) (x y : _) → Reads.Post κs a r x → Reads.Post κs a s y →
@@ -51,13 +43,18 @@ returns-then-refusal-ne0 c =
     let e = c.heading_refusal-refusal.ensures in
     let a = c.args in
     let some : heading_refusal a.bytes.now (length a.rows.now) ≡ 0 → ⊥ = λ z. c.if-refusal-ne0.true (e ∙ z) in
-    record { value = ap nothing_read e ∙ sym (heading_refused _ a.rows.now some); rows_after = sym (heading_leaves _ _ some) }
+    record {
+      value = ap nothing_read e ∙ sym (heading_refused _ a.rows.now some);
+      rows_after = sym (heading_leaves _ _ some);
+    }
 
 pub heading_of-heading-requires : goal.heading_of-heading-requires
 heading_of-heading-requires c = ((read c).long, (read c).inside)
 
 pub overflow_cast-heading : goal.overflow_cast-heading
-overflow_cast-heading c = omega (arith, n_of_lem (goal.at.overflow_cast-heading c).After-heading_of-heading, inside_high _ (read (goal.at.overflow_cast-heading c).Else-refusal-ne0).inside)
+overflow_cast-heading c =
+    let r = read (goal.at.overflow_cast-heading c).Else-refusal-ne0 in
+    omega (arith, n_of_lem (goal.at.overflow_cast-heading c).After-heading_of-heading, inside_high _ r.inside)
 
 pub write_rows-requires : goal.write_rows-requires
 unfolding heading_bytes
@@ -68,10 +65,13 @@ write_rows-requires c =
 pub returns : goal.returns
 unfolding heading_row
 returns c =
-    let h = known c in
+    let h = (goal.at.returns c).After-heading_of-heading in
     let l = (goal.at.After-heading_of-heading h).Else-refusal-ne0 in
-    let bytes = (start_of l).args.bytes.now in
-    let rows = (start_of l).args.rows.now in
-    record { value = h.heading_of-heading.ensures ∙ sym (heading_given bytes rows (none l)); rows_after = c.write_rows.ensures
+    let bytes = l.args.bytes.now in
+    let rows = l.args.rows.now in
+    record {
+      value = h.heading_of-heading.ensures ∙ sym (heading_given bytes rows (none l));
+      rows_after = c.write_rows.ensures
           ∙ ap (λ (n : ℕ). front n (heading_row bytes) rows) (n_of_lem h)
-          ∙ sym (heading_written bytes rows (none l)) }
+          ∙ sym (heading_written bytes rows (none l));
+    }

@@ -10,29 +10,28 @@ use borrow.Rule.Slice.PartMut.{mid_len, Post-is}
 use Rattle.counting.proofs.Build.{front_all}
 use Rattle.runfile.specs.Reply.{part_refusal, part_of}
 use Rattle.runfile.proofs.Part.{PartAccepted, part_accepted, part_leaves, part_written}
-use borrow.Author.Rules.{rules}
 use Rattle.runfile.proofs.read_part.Reads as Reads
 use Rattle.runfile.proofs.read_part.Goals as goal
-use Rattle.runfile.proofs.read_part.Goals.{Else-number-ne0, Start}
+use Rattle.runfile.proofs.read_part.Goals.{Else-number-ne0}
 
-abbrev start_of : Else-number-ne0 → Start
-start_of c = (goal.at.Else-number-ne0 c).Start
-
-none : (c : Else-number-ne0) → part_refusal (start_of c).args.from (start_of c).args.count (start_of c).args.bytes.now (length (start_of c).args.rows.now) ≡ 0
+none : (c : Else-number-ne0) →
+    part_refusal c.args.from c.args.count c.args.bytes.now (length c.args.rows.now) ≡ 0
 none c = sym c.part_refusal-number.ensures ∙ c.if-number-ne0.false
 
 -- the place behind the part
 abbrev end_of : Else-number-ne0 → ℕ
-end_of c = (start_of c).args.from + (start_of c).args.count
+end_of c = c.args.from + c.args.count
 
 -- what the part passed
-read : (c : Else-number-ne0) → PartAccepted (start_of c).args.from (start_of c).args.count (start_of c).args.bytes.now (length (start_of c).args.rows.now)
+read : (c : Else-number-ne0) →
+    PartAccepted c.args.from c.args.count c.args.bytes.now (length c.args.rows.now)
 read c = part_accepted _ _ _ _ (none c)
 
 -- the part that is lent has as many places as rows are to be written
-part_long : (c : Else-number-ne0) → length (take (end_of c - (start_of c).args.from) (drop (start_of c).args.from (start_of c).args.rows.now)) ≡ (start_of c).args.count
+part_long : (c : Else-number-ne0) →
+    length (take (end_of c - c.args.from) (drop c.args.from c.args.rows.now)) ≡ c.args.count
 part_long c =
-    let a = (start_of c).args in
+    let a = c.args in
     mid_len a.from (end_of c) a.rows.now (read c).enough ∙ omega arith
 
 -- the contract admits one reply, and one last contents of the slice
@@ -58,14 +57,19 @@ pub slice_bounds-write_rows-end : goal.slice_bounds-write_rows-end
 slice_bounds-write_rows-end c = omega (arith, (read c).enough)
 
 pub write_rows-requires : goal.write_rows-requires
-write_rows-requires c = (omega (arith, (read (goal.at.write_rows-requires c).Else-number-ne0).within), omega (arith, part_long (goal.at.write_rows-requires c).Else-number-ne0))
+write_rows-requires c =
+    let d = (goal.at.write_rows-requires c).Else-number-ne0 in
+    (omega (arith, (read d).within), omega (arith, part_long d))
 
 pub returns : goal.returns
 unfolding part_of
 returns c =
     let d = (goal.at.returns c).Else-number-ne0 in
-    let a = (start_of d).args in
+    let a = d.args in
     let written = front_all _ _ a.count (part_long d) c.write_rows.ensures in
     let rest = Post-is a.from (end_of d) a.rows.now (omega arith) in
-    record { value = sym (none d); rows_after = ap₂ (λ (ys zs : List ℕ). take a.from a.rows.now ++ (ys ++ zs)) written rest
-          ∙ sym (part_written _ _ _ _ (none d)) }
+    record {
+      value = sym (none d);
+      rows_after = ap₂ (λ (ys zs : List ℕ). take a.from a.rows.now ++ (ys ++ zs)) written rest
+          ∙ sym (part_written _ _ _ _ (none d));
+    }

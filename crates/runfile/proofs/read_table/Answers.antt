@@ -10,29 +10,23 @@ use Rattle.runfile.specs.File.{table_row}
 use Rattle.counting.specs.Count.{front}
 use Rattle.runfile.specs.Reply.{table_refusal}
 use Rattle.runfile.proofs.Laws.{TableAccepted, table_accepted, table_leaves, table_written}
-use borrow.Author.Rules.{rules}
 use Rattle.runfile.proofs.read_table.Reads as Reads
 use Rattle.runfile.proofs.read_table.Goals as goal
-use Rattle.runfile.proofs.read_table.Goals.{After-slice_known-2-1, After-table_rows, Else-refused-ne0, Start}
+use Rattle.runfile.proofs.read_table.Goals.{After-table_rows, Else-refused-ne0}
 
-abbrev start_of : Else-refused-ne0 → Start
-start_of c = (goal.at.Else-refused-ne0 c).Start
-
-none : (c : Else-refused-ne0) → table_refusal (start_of c).args.n (start_of c).args.bytes.now (length (start_of c).args.rows.now) ≡ 0
+none : (c : Else-refused-ne0) → table_refusal c.args.n c.args.bytes.now (length c.args.rows.now) ≡ 0
 none c =
     let zero : c.table_refusal-refused.result ≡ 0 = omega (arith, c.if-refused-ne0.false) in
     sym c.table_refusal-refused.ensures ∙ zero
 
 -- what the table passed
-read : (c : Else-refused-ne0) → TableAccepted (start_of c).args.n (start_of c).args.bytes.now (length (start_of c).args.rows.now)
+read : (c : Else-refused-ne0) → TableAccepted c.args.n c.args.bytes.now (length c.args.rows.now)
 read c = table_accepted _ _ _ (none c)
 
-rows_of_lem : (c : After-table_rows) → c.table_rows.result ≡ table_rows (start_of (goal.at.After-table_rows c).Else-refused-ne0).args.n
-rows_of_lem c = c.table_rows.ensures ∙ by_n_inside table_rows _ (read (goal.at.After-table_rows c).Else-refused-ne0).inside
-
--- where the rows are counted, from where they are written
-abbrev counted : After-slice_known-2-1 → After-table_rows
-counted c = (goal.at.After-slice_known-2-1 c).After-table_rows
+rows_of_lem : (c : After-table_rows) → c.table_rows.result ≡ table_rows c.args.n
+rows_of_lem c =
+    c.table_rows.ensures
+    ∙ by_n_inside table_rows _ (read (goal.at.After-table_rows c).Else-refused-ne0).inside
 
 -- the contract admits one reply, and one last contents of the slice
 pub only_one : (κs : _) (a : _) (r s : _) (x y : _) → Reads.Post κs a r x → Reads.Post κs a s y →
@@ -42,18 +36,24 @@ only_one κs a r s x y p q = (p.0 ∙ sym q.0, p.1 ∙ sym q.1)
 pub returns-then-refused-ne0 : goal.returns-then-refused-ne0
 returns-then-refused-ne0 c =
     let e = c.table_refusal-refused.ensures in
-    record { value = e; rows_after = sym (table_leaves _ _ _ (λ z. absurd (omega (arith, e, z, c.if-refused-ne0.true)))) }
+    let some = λ (z : table_refusal c.args.n c.args.bytes.now (length c.args.rows.now) ≡ 0).
+    absurd (omega (arith, e, z, c.if-refused-ne0.true)) in
+    record { value = e; rows_after = sym (table_leaves _ _ _ some) }
 
 pub write_rows-requires : goal.write_rows-requires
 write_rows-requires c =
-    omega (arith, rows_of_lem (goal.at.write_rows-requires c).After-table_rows, (read (goal.at.write_rows-requires c).Else-refused-ne0).exact, (read (goal.at.write_rows-requires c).Else-refused-ne0).enough)
+    let r = read (goal.at.write_rows-requires c).Else-refused-ne0 in
+    omega (arith, rows_of_lem (goal.at.write_rows-requires c).After-table_rows, r.exact, r.enough)
 
 pub returns : goal.returns
 unfolding table_row
 returns c =
-    let rows = counted c in
+    let rows = (goal.at.returns c).After-table_rows in
     let l = (goal.at.After-table_rows rows).Else-refused-ne0 in
-    let a = (start_of l).args in
-    record { value = sym (none l); rows_after = c.write_rows.ensures
+    let a = l.args in
+    record {
+      value = sym (none l);
+      rows_after = c.write_rows.ensures
           ∙ ap (λ (n : ℕ). front n (table_row a.bytes.now) a.rows.now) (rows_of_lem rows)
-          ∙ sym (table_written _ a.bytes.now a.rows.now (none l)) }
+          ∙ sym (table_written _ a.bytes.now a.rows.now (none l));
+    }

@@ -3,7 +3,6 @@ use mathlib.Core.Path.{refl}
 use native.Mathlib.Omega.{arith}
 use lib.ListN.{length-set}
 use Rattle.runfile.specs.Inside.{four_from}
-use borrow.Author.Rules.{rules}
 use Rattle.runfile.proofs.write_four.Goals as goal
 
 pub bounds-rows-k-2 : goal.bounds-rows-k-2

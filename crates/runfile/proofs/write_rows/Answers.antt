@@ -1,27 +1,13 @@
 -- `runfile::write_rows` meets its contract: after each turn the first k rows stand at the front of the slice, whose
 -- length stays; the rest follow one by one. What is left of the count falls. Assumes nothing.
 use mathlib.Core.Path.{◌≡◌, refl, sym, ap, ◌∙◌}
-use Prim.Native.Nat.{ℕ, ◌+◌, ◌*◌, ◌≤◌, ◌-◌}
+use Prim.Native.Nat.{ℕ, ◌+◌, ◌*◌}
 use native.Mathlib.Omega.{arith}
-use lib.ListN.{length}
 use Rattle.runfile.specs.File.{row_from, number}
 use Rattle.runfile.specs.Inside.{four_from}
-use Rattle.counting.specs.Count.{front}
 use Rattle.counting.proofs.Build.{front_none, front_four}
 use borrow.Author.Rules.{rules}
 use Rattle.runfile.proofs.write_rows.Goals as goal
-use Rattle.runfile.proofs.write_rows.Goals.{After-slice_known-2-1, After-slice_known-in-loop-k-1, At-loop-k, In-loop-k, Start}
-
--- a turn, and where its four rows are written
-abbrev start_of : In-loop-k → Start
-start_of c = (goal.at.In-loop-k c).Start
-
-abbrev turn_of : After-slice_known-in-loop-k-1 → In-loop-k
-turn_of c = (goal.at.After-slice_known-in-loop-k-1 c).In-loop-k
-
--- the turns are at an end
-abbrev loop_of : After-slice_known-2-1 → At-loop-k
-loop_of c = (goal.at.After-slice_known-2-1 c).At-loop-k
 
 pub loop-k-init : goal.loop-k-init
 loop-k-init c = (search rules, refl, front_none _ _)
@@ -30,20 +16,19 @@ pub overflow_add-k : goal.overflow_add-k
 overflow_add-k c = omega (arith, c.requires.0)
 
 pub overflow_mul-k : goal.overflow_mul-k
-overflow_mul-k c = omega (arith, (start_of c).requires.0)
+overflow_mul-k c = omega (arith, c.requires.0)
 
 pub overflow_add-at : goal.overflow_add-at
-overflow_add-at c = omega (arith, (start_of c).requires.0)
+overflow_add-at c = omega (arith, c.requires.0)
 
 pub write_four-requires : goal.write_four-requires
-write_four-requires c = omega (arith, (start_of (goal.at.write_four-requires c).In-loop-k).requires, c.loop-k.invariant.1)
+write_four-requires c = omega (arith, c.requires, c.loop-k.invariant.1)
 
 pub loop-k-preserved : goal.loop-k-preserved
 unfolding row_from four_from
 loop-k-preserved c =
-    let s = start_of (turn_of c) in
-    let a = s.args in
-    let turn = (turn_of c).loop-k in
+    let a = c.args in
+    let turn = c.loop-k in
     let k = turn.k in
     let bytes = a.bytes.now in
     let at : (m : ℕ) → a.at + 8 * k + 8 * m ≡ a.at + 8 * (k + m) = λ m. omega arith in
@@ -51,17 +36,15 @@ loop-k-preserved c =
       search rules,
       four.auto.rows ∙ turn.invariant.1,
       four.ensures
-          ∙ front_four k (row_from a.at bytes) a.rows.now _ (omega (arith, s.requires.1)) turn.invariant.2 refl
+          ∙ front_four k (row_from a.at bytes) a.rows.now _ (omega (arith, c.requires.1)) turn.invariant.2 refl
           (ap (λ (m : ℕ). number bytes m 8) (at 1)) (ap (λ (m : ℕ). number bytes m 8) (at 2))
           (ap (λ (m : ℕ). number bytes m 8) (at 3)),
     )
 
 pub write_rest-requires : goal.write_rest-requires
-write_rest-requires c =
-    let done = (goal.at.write_rest-requires c).At-loop-k in
-    omega (arith, done.requires, done.loop-k.invariant.1)
+write_rest-requires c = omega (arith, c.requires, c.loop-k.invariant.1)
 
 pub returns : goal.returns
 returns c =
-    let done = (loop_of c).loop-k.invariant in
+    let done = c.loop-k.invariant in
     c.write_rest.ensures _ (sym done.1) done.2

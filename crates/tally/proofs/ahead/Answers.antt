@@ -17,15 +17,15 @@ use Rattle.tally.proofs.ahead.Goals.{After-support_of-support, Else-support-lead
 abbrev start_of : After-support_of-support → Start
 start_of c = (goal.at.After-support_of-support c).Start
 
-abbrev rows_of_lem : After-support_of-support → List ℕ
-rows_of_lem c = (start_of c).args.rows.now
+abbrev rows_at : After-support_of-support → List ℕ
+rows_at c = (start_of c).args.rows.now
 
 -- the lead's support is its row's
-own : (c : After-support_of-support) → (start_of c).args.lead.support ≡ support (rows_of_lem c) (start_of c).args.lead.row
+own : (c : After-support_of-support) → (start_of c).args.lead.support ≡ support (rows_at c) (start_of c).args.lead.row
 own c = lead_support _ _ (start_of c).args.v (start_of c).requires
 
 -- with as much support the lower row is before the other
-level : (c : After-support_of-support) → let a = (start_of c).args in a.lead.support ≡ c.support_of-support.result → before (rows_of_lem c) a.lead.row a.v ≡ ltb a.v a.lead.row
+level : (c : After-support_of-support) → let a = (start_of c).args in a.lead.support ≡ c.support_of-support.result → before (rows_at c) a.lead.row a.v ≡ ltb a.v a.lead.row
 level c e = before_tie _ _ _ (sym (own c) ∙ e ∙ c.support_of-support.ensures)
 
 -- where neither has more

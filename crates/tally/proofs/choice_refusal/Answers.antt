@@ -16,10 +16,10 @@ use Rattle.tally.proofs.choice_refusal.Goals as goal
 use Rattle.tally.proofs.choice_refusal.Goals.{Else-rows-confidences, Else-rows-gt13}
 
 -- where 4 is passed
-abbrev rows_of_lem : Else-rows-gt13 → List ℕ
-rows_of_lem c = c.args.rows.now
+abbrev rows_at : Else-rows-gt13 → List ℕ
+rows_at c = c.args.rows.now
 
-within : (c : Else-rows-gt13) → outside (length (rows_of_lem c)) ≡ false
+within : (c : Else-rows-gt13) → outside (length (rows_at c)) ≡ false
 within c = inside _ (search rules) (search rules)
 
 pub returns-then-rows-lt1 : goal.returns-then-rows-lt1

@@ -27,23 +27,23 @@ use Rattle.tally.proofs.choose.Goals.{After-lead_of-lead, Else-refusal-ne0, Star
 abbrev start_of : Else-refusal-ne0 → Start
 start_of c = (goal.at.Else-refusal-ne0 c).Start
 
-abbrev rows_of_lem : Else-refusal-ne0 → List ℕ
-rows_of_lem c = (start_of c).args.rows.now
+abbrev rows_at : Else-refusal-ne0 → List ℕ
+rows_at c = (start_of c).args.rows.now
 
 abbrev confidences_of : Else-refusal-ne0 → List ℕ
 confidences_of c = (start_of c).args.confidences.now
 
-taken : (c : Else-refusal-ne0) → choice_refusal (rows_of_lem c) (confidences_of c) ≡ 0
+taken : (c : Else-refusal-ne0) → choice_refusal (rows_at c) (confidences_of c) ≡ 0
 taken c = sym c.choice_refusal-refusal.ensures ∙ c.if-refusal-ne0.false
 
-sizes : (c : Else-refusal-ne0) → (1 ≤ length (rows_of_lem c)) × (length (rows_of_lem c) ≤ 13) × (length (rows_of_lem c) ≡ length (confidences_of c))
-sizes c = choice_lengths (rows_of_lem c) (confidences_of c) (taken c)
+sizes : (c : Else-refusal-ne0) → (1 ≤ length (rows_at c)) × (length (rows_at c) ≤ 13) × (length (rows_at c) ≡ length (confidences_of c))
+sizes c = choice_lengths (rows_at c) (confidences_of c) (taken c)
 
 -- where the lead is found
 abbrev passed_of : After-lead_of-lead → Else-refusal-ne0
 passed_of c = (goal.at.After-lead_of-lead c).Else-refusal-ne0
 
-chosen : (c : After-lead_of-lead) → c.lead_of-lead.result.row ≡ chosen_row (rows_of_lem (passed_of c)) (confidences_of (passed_of c))
+chosen : (c : After-lead_of-lead) → c.lead_of-lead.result.row ≡ chosen_row (rows_at (passed_of c)) (confidences_of (passed_of c))
 chosen c =
     lead_chosen _ _ _
     (subst (λ (xs : List ℕ). c.lead_of-lead.result ≡ lead_of xs (most xs)) c.counted_rows-counted.ensures.1

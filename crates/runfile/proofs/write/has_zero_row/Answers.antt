@@ -1,15 +1,9 @@
 -- `runfile::write::has_zero_row` meets its contract: a turn ends the search at a sound box's zero row, and otherwise
 -- none of the first k + 1 is one. What is left of n falls. Assumes nothing.
-use mathlib.Core.Bool.{◌&&◌}
-use Prim.Native.Nat.{◌-◌}
 use native.Mathlib.Omega.{arith}
-use lib.Dec.{eqb}
-use lib.ListN.{get_or}
-use Rattle.counting.proofs.Loops.{NoneYet, search_begins, search_turn, search_hits, search_ends}
-use Rattle.sizes.specs.Sizes.{sound, sound_zero}
+use Rattle.counting.proofs.Loops.{search_begins, search_turn, search_hits, search_ends}
+use Rattle.sizes.specs.Sizes.{sound_zero}
 use borrow.Author.Rules.{rules}
-use Rattle.runfile.proofs.write.has_zero_row.Statement.{statement}
-use Rattle.runfile.proofs.write.has_zero_row.Tie as tie
 use Rattle.runfile.proofs.write.has_zero_row.Goals as goal
 
 pub loop-k-init : goal.loop-k-init

@@ -2,14 +2,10 @@
 -- none of the first k + 1 is one. What is left of n falls. Assumes nothing.
 use mathlib.Core.Bool.{◌&&◌}
 use Prim.Native.Nat.{◌-◌}
-use native.Mathlib.Omega.{arith}
 use lib.Dec.{eqb}
 use lib.ListN.{get_or}
-use Rattle.counting.proofs.Loops.{NoneYet, search_begins, search_turn, search_hits, search_ends}
-use Rattle.sizes.specs.Sizes.{sound, sound_zero}
-use borrow.Author.Rules.{rules}
-use Rattle.runfile.proofs.write.has_zero_row.Statement.{statement}
-use Rattle.runfile.proofs.write.has_zero_row.Tie as tie
+use Rattle.counting.proofs.Loops.{NoneYet}
+use Rattle.sizes.specs.Sizes.{sound}
 use Rattle.runfile.proofs.write.has_zero_row.Given as goal
 
 abbrev pub invariant-loop-k : goal.invariant-loop-k

@@ -9,9 +9,6 @@ use lib.Seq.{sets-eq}
 use Rattle.runfile.specs.Inside.{first_nine}
 use Rattle.runfile.specs.File.{in_bytes}
 use Rattle.runfile.specs.Write.{at_front}
-use borrow.Author.Rules.{rules}
-use Rattle.runfile.proofs.write.put_nine.Statement.{statement}
-use Rattle.runfile.proofs.write.put_nine.Tie as tie
 use Rattle.runfile.proofs.write.put_nine.Goals as goal
 
 pub bounds-out-1 : goal.bounds-out-1

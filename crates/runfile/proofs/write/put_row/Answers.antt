@@ -4,11 +4,7 @@
 use native.Mathlib.Omega.{arith}
 use lib.ListN.{length-set}
 use Rattle.runfile.proofs.Put.{eight_bytes, put_eight}
-use borrow.Author.Rules.{rules}
-use Rattle.runfile.proofs.write.put_row.Statement.{statement}
-use Rattle.runfile.proofs.write.put_row.Tie as tie
 use Rattle.runfile.proofs.write.put_row.Goals as goal
-use Rattle.runfile.proofs.write.put_row.Goals.{After-last_byte, After-last_byte-2, After-last_byte-3, After-last_byte-4, After-last_byte-5, After-last_byte-6, After-last_byte-7}
 
 pub bounds-out-at-2 : goal.bounds-out-at-2
 bounds-out-at-2 c = simp length-set (omega arith)
@@ -33,22 +29,15 @@ bounds-out-at-8 c = simp length-set (omega arith)
 
 pub returns : goal.returns
 returns c =
-    let c6 = (goal.at.returns c).After-last_byte-7 in
-    let c5 = (goal.at.After-last_byte-7 c6).After-last_byte-6 in
-    let c4 = (goal.at.After-last_byte-6 c5).After-last_byte-5 in
-    let c3 = (goal.at.After-last_byte-5 c4).After-last_byte-4 in
-    let c2 = (goal.at.After-last_byte-4 c3).After-last_byte-3 in
-    let c1 = (goal.at.After-last_byte-3 c2).After-last_byte-2 in
-    let c0 = (goal.at.After-last_byte-2 c1).After-last_byte in
-    let a = c0.args in
+    let a = c.args in
     rw (
       eight_bytes a.row,
-      c0.last_byte.ensures,
-      c1.last_byte-2.ensures,
-      c2.last_byte-3.ensures,
-      c3.last_byte-4.ensures,
-      c4.last_byte-5.ensures,
-      c5.last_byte-6.ensures,
-      c6.last_byte-7.ensures,
+      c.last_byte.ensures,
+      c.last_byte-2.ensures,
+      c.last_byte-3.ensures,
+      c.last_byte-4.ensures,
+      c.last_byte-5.ensures,
+      c.last_byte-6.ensures,
+      c.last_byte-7.ensures,
       c.last_byte-8.ensures,
-    ) (put_eight a.at a.out.now _ _ _ _ _ _ _ _ (omega (arith, c0.requires)))
+    ) (put_eight a.at a.out.now _ _ _ _ _ _ _ _ (omega (arith, c.requires)))

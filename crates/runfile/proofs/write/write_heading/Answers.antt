@@ -17,31 +17,22 @@ use Rattle.runfile.proofs.Written.{
   wrote_given,
   wrote_written,
 }
-use borrow.Author.Rules.{rules}
-use Rattle.runfile.proofs.write.write_heading.Statement.{statement}
-use Rattle.runfile.proofs.write.write_heading.Tie as tie
 use Rattle.runfile.proofs.write.write_heading.Reads as Reads
 use Rattle.runfile.proofs.write.write_heading.Goals as goal
-use Rattle.runfile.proofs.write.write_heading.Goals.{After-put_nine, After-put_rows-arg-1, Else-refusal-ne0, Start}
+use Rattle.runfile.proofs.write.write_heading.Goals.{After-put_nine, Else-refusal-ne0}
 
-abbrev start_of : Else-refusal-ne0 → Start
-start_of c = (goal.at.Else-refusal-ne0 c).Start
-
-none : (c : Else-refusal-ne0) → let a = (start_of c).args in write_heading_refusal a.n a.t a.faulty a.rows.now (length a.out.now) ≡ 0
+none : (c : Else-refusal-ne0) →
+    let a = c.args in write_heading_refusal a.n a.t a.faulty a.rows.now (length a.out.now) ≡ 0
 none c = sym c.write_heading_refusal-refusal.ensures ∙ c.if-refusal-ne0.false
 
 -- what the heading passed
-fits : (c : Else-refusal-ne0) → let a = (start_of c).args in HeadingWritten a.n a.t a.faulty a.rows.now (length a.out.now)
+fits : (c : Else-refusal-ne0) → let a = c.args in HeadingWritten a.n a.t a.faulty a.rows.now (length a.out.now)
 fits c = write_heading_accepted _ _ _ _ _ (none c)
 
 -- the slice has room for nine bytes and for the rows
-room : (c : Else-refusal-ne0) → 9 + 8 * length (start_of c).args.rows.now ≤ length (start_of c).args.out.now
+room : (c : Else-refusal-ne0) → 9 + 8 * length c.args.rows.now ≤ length c.args.out.now
 unfolding heading_bytes
 room c = omega (arith, (fits c).starts.pass11, (fits c).enough)
-
--- behind the nine bytes, from where the rows are written
-abbrev nine_of : After-put_rows-arg-1 → After-put_nine
-nine_of c = (goal.at.After-put_rows-arg-1 c).After-put_nine
 
 -- the contract admits one reply, and one last contents of the slice
 pub only_one : (κs : _) (a : _) (r s : _) (x y : _) → Reads.Post κs a r x → Reads.Post κs a s y →
@@ -55,29 +46,35 @@ returns-then-refusal-ne0 c =
     let a = c.args in
     let some : write_heading_refusal a.n a.t a.faulty a.rows.now (length a.out.now) ≡ 0 → ⊥ =
     λ z. c.if-refusal-ne0.true (e ∙ z) in
-    record { value = ap (λ (k : ℕ). record { refusal = k; size = 0 }) e ∙ sym (wrote_refused _ _ [] [] some); out_after = sym (wrote_leaves _ 0 _ _ some) }
+    record {
+      value = ap (λ (k : ℕ). record { refusal = k; size = 0 }) e ∙ sym (wrote_refused _ _ [] [] some);
+      out_after = sym (wrote_leaves _ 0 _ _ some);
+    }
 
 pub put_nine-requires : goal.put_nine-requires
 put_nine-requires c = omega (arith, room (goal.at.put_nine-requires c).Else-refusal-ne0)
 
 pub put_rows-requires : goal.put_rows-requires
 put_rows-requires c =
-    let nine = nine_of c in
+    let nine = (goal.at.put_rows-requires c).After-put_nine in
     omega (arith, room (goal.at.After-put_nine nine).Else-refusal-ne0, nine.put_nine.auto.out)
 
 pub returns : goal.returns
 unfolding write_heading_reply write_heading_writes heading_bytes
 returns c =
-    let nine = nine_of (goal.at.returns c).After-put_rows-arg-1 in
+    let nine = (goal.at.returns c).After-put_nine in
     let l = (goal.at.After-put_nine nine).Else-refusal-ne0 in
-    let a = (start_of l).args in
+    let a = l.args in
     let rows = a.rows.now in
     let out = a.out.now in
     let count : length rows ≡ a.n = (fits l).starts.pass11 in
     let size : 9 + 8 * length rows ≡ 9 + 8 * a.n = omega arith in
     let first = first_nine a.n a.t a.faulty in
-    record { value = ap (λ (k : ℕ). record { refusal = 0; size = k }) size ∙ sym (wrote_given _ _ [] [] (none l)); out_after = c.put_rows.ensures
+    record {
+      value = ap (λ (k : ℕ). record { refusal = 0; size = k }) size ∙ sym (wrote_given _ _ [] [] (none l));
+      out_after = c.put_rows.ensures
           ∙ put_behind first _ out _ 9 (length_nine a.n a.t a.faulty) nine.put_nine.ensures
           ∙ ap (λ (k : ℕ). at_front (first ++ rows_in_bytes rows k) out) count
           ∙ ap (λ (text : List ℕ). at_front text out) (nine_then_rows a.n a.t a.faulty rows)
-          ∙ sym (wrote_written _ 0 _ _ (none l)) }
+          ∙ sym (wrote_written _ 0 _ _ (none l));
+    }

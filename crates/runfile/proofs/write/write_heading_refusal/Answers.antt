@@ -13,24 +13,14 @@ use Rattle.sizes.specs.Sizes.{size_refusal}
 use Rattle.sizes.proofs.Laws.{size_given, size_passed, passes_sized}
 use Rattle.runfile.specs.File.{heading_bytes}
 use Rattle.runfile.specs.Write.{write_heading_tests, write_heading_refusal}
-use borrow.Author.Rules.{rules}
-use Rattle.runfile.proofs.write.write_heading_refusal.Statement.{statement}
-use Rattle.runfile.proofs.write.write_heading_refusal.Tie as tie
 use Rattle.runfile.proofs.write.write_heading_refusal.Goals as goal
-use Rattle.runfile.proofs.write.write_heading_refusal.Goals.{Else-has_zero_row, Else-is_stray, Else-refusal-ne0, Else-rows-n, Start}
-
--- the way back from behind each test that was passed
-abbrev start_1 : Else-refusal-ne0 → Start
-start_1 c = (goal.at.Else-refusal-ne0 c).Start
-
-abbrev start_2 : Else-is_stray → Start
-start_2 c = start_1 (goal.at.Else-is_stray c).Else-refusal-ne0
-
-abbrev start_3 : Else-rows-n → Start
-start_3 c = start_2 (goal.at.Else-rows-n c).Else-is_stray
-
-abbrev start_4 : Else-has_zero_row → Start
-start_4 c = start_3 (goal.at.Else-has_zero_row c).Else-rows-n
+use Rattle.runfile.proofs.write.write_heading_refusal.Goals.{
+  Else-has_zero_row,
+  Else-is_stray,
+  Else-refusal-ne0,
+  Else-rows-n,
+  Start,
+}
 
 -- the tests up to a place of the list are passed
 abbrev Passed : Start → ℕ → Type 0
@@ -39,26 +29,32 @@ Passed s k =
     write_heading_refusal a.n a.t a.faulty a.rows.now a.room
     ≡ first_of (drop k (write_heading_tests a.n a.t a.faulty a.rows.now a.room))
 
-sized : (c : Else-refusal-ne0) → size_refusal (start_1 c).args.n (start_1 c).args.t ≡ 0
+sized : (c : Else-refusal-ne0) → size_refusal c.args.n c.args.t ≡ 0
 sized c = sym c.size_refusal-refusal.ensures ∙ c.if-refusal-ne0.false
 
-passed_5 : (c : Else-refusal-ne0) → Passed (start_1 c) 2
+passed_5 : (c : Else-refusal-ne0) → Passed (goal.at.Else-refusal-ne0 c).Start 2
 unfolding write_heading_refusal write_heading_tests
 passed_5 c = size_passed _ _ _ (sized c)
 
-passed_6 : (c : Else-is_stray) → Passed (start_2 c) 3
+passed_6 : (c : Else-is_stray) → Passed (goal.at.Else-is_stray c).Start 3
 unfolding write_heading_tests
-passed_6 c = passed_5 (goal.at.Else-is_stray c).Else-refusal-ne0 ∙ passed 6 _ (sym c.is_stray.ensures ∙ c.if-is_stray.false)
+passed_6 c =
+    passed_5 (goal.at.Else-is_stray c).Else-refusal-ne0
+    ∙ passed 6 _ (sym c.is_stray.ensures ∙ c.if-is_stray.false)
 
-passed_11 : (c : Else-rows-n) → Passed (start_3 c) 4
+passed_11 : (c : Else-rows-n) → Passed (goal.at.Else-rows-n c).Start 4
 unfolding write_heading_tests
-passed_11 c = passed_6 (goal.at.Else-rows-n c).Else-is_stray ∙ passed 11 _ (not_of_true (eq-eqb _ _ c.if-rows-n.false))
+passed_11 c =
+    passed_6 (goal.at.Else-rows-n c).Else-is_stray
+    ∙ passed 11 _ (not_of_true (eq-eqb _ _ c.if-rows-n.false))
 
-passed_9 : (c : Else-has_zero_row) → Passed (start_4 c) 5
+passed_9 : (c : Else-has_zero_row) → Passed (goal.at.Else-has_zero_row c).Start 5
 unfolding write_heading_tests
-passed_9 c = passed_11 (goal.at.Else-has_zero_row c).Else-rows-n ∙ passed 9 _ (sym c.has_zero_row.ensures ∙ c.if-has_zero_row.false)
+passed_9 c =
+    passed_11 (goal.at.Else-has_zero_row c).Else-rows-n
+    ∙ passed 9 _ (sym c.has_zero_row.ensures ∙ c.if-has_zero_row.false)
 
-n_high : (c : Else-has_zero_row) → (start_4 c).args.n ≤ 13
+n_high : (c : Else-has_zero_row) → c.args.n ≤ 13
 n_high c = (passes_sized _ _ (sized (goal.at.Else-has_zero_row c).Else-refusal-ne0)).high
 
 pub returns-then-refusal-ne0 : goal.returns-then-refusal-ne0
@@ -70,16 +66,20 @@ returns-then-refusal-ne0 c =
 pub returns-then-is_stray : goal.returns-then-is_stray
 unfolding write_heading_tests
 returns-then-is_stray c =
-    sym (passed_5 (goal.at.returns-then-is_stray c).Else-refusal-ne0 ∙ refused 6 _ (sym c.is_stray.ensures ∙ c.if-is_stray.true))
+    sym (passed_5 (goal.at.returns-then-is_stray c).Else-refusal-ne0
+    ∙ refused 6 _ (sym c.is_stray.ensures ∙ c.if-is_stray.true))
 
 pub returns-then-rows-n : goal.returns-then-rows-n
 unfolding write_heading_tests
-returns-then-rows-n c = sym (passed_6 (goal.at.returns-then-rows-n c).Else-is_stray ∙ refused 11 _ (not_of_false (ne_eqb _ _ c.if-rows-n.true)))
+returns-then-rows-n c =
+    sym (passed_6 (goal.at.returns-then-rows-n c).Else-is_stray
+    ∙ refused 11 _ (not_of_false (ne_eqb _ _ c.if-rows-n.true)))
 
 pub returns-then-has_zero_row : goal.returns-then-has_zero_row
 unfolding write_heading_tests
 returns-then-has_zero_row c =
-    sym (passed_11 (goal.at.returns-then-has_zero_row c).Else-rows-n ∙ refused 9 _ (sym c.has_zero_row.ensures ∙ c.if-has_zero_row.true))
+    sym (passed_11 (goal.at.returns-then-has_zero_row c).Else-rows-n
+    ∙ refused 9 _ (sym c.has_zero_row.ensures ∙ c.if-has_zero_row.true))
 
 pub overflow_mul-n : goal.overflow_mul-n
 overflow_mul-n c = omega (arith, n_high c)
@@ -89,8 +89,12 @@ overflow_add-n c = omega (arith, n_high c)
 
 pub returns-then-room-n : goal.returns-then-room-n
 unfolding write_heading_tests heading_bytes
-returns-then-room-n c = sym (passed_9 (goal.at.returns-then-room-n c).Else-has_zero_row ∙ refused 10 [] (lt-ltb _ _ c.if-room-n.true))
+returns-then-room-n c =
+    sym (passed_9 (goal.at.returns-then-room-n c).Else-has_zero_row
+    ∙ refused 10 [] (lt-ltb _ _ c.if-room-n.true))
 
 pub returns : goal.returns
 unfolding write_heading_tests heading_bytes
-returns c = sym (passed_9 (goal.at.returns c).Else-has_zero_row ∙ passed 10 [] (le-ltb _ _ c.if-room-n.false) ∙ none_left)
+returns c =
+    sym (passed_9 (goal.at.returns c).Else-has_zero_row
+    ∙ passed 10 [] (le-ltb _ _ c.if-room-n.false) ∙ none_left)

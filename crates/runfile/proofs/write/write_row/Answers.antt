@@ -6,22 +6,16 @@ use native.Mathlib.Omega.{arith}
 use lib.ListN.{length}
 use borrow.Author.Tests.{lt-ltb, le-ltb}
 use Rattle.runfile.specs.Write.{row_refusal, row_writes}
-use borrow.Author.Rules.{rules}
-use Rattle.runfile.proofs.write.write_row.Statement.{statement}
-use Rattle.runfile.proofs.write.write_row.Tie as tie
 use Rattle.runfile.proofs.write.write_row.Reads as Reads
 use Rattle.runfile.proofs.write.write_row.Goals as goal
-use Rattle.runfile.proofs.write.write_row.Goals.{Else-out-at, Else-out-lt8, Start}
+use Rattle.runfile.proofs.write.write_row.Goals.{Else-out-at}
 
 -- the slice has no room, and it has
 short : (at room : ℕ) → room < at + 8 → 10 ≡ row_refusal at room
 unfolding row_refusal
 short at room l = rw (lt-ltb room (at + 8) l) refl
 
-abbrev start_of : Else-out-lt8 → Start
-start_of c = (goal.at.Else-out-lt8 c).Start
-
-room_of : (c : Else-out-at) → (start_of (goal.at.Else-out-at c).Else-out-lt8).args.at + 8 ≤ length (start_of (goal.at.Else-out-at c).Else-out-lt8).args.out.now
+room_of : (c : Else-out-at) → c.args.at + 8 ≤ length c.args.out.now
 room_of c = omega (arith, c.if-out-at.false, c.if-out-lt8.false)
 
 -- the contract admits one reply, and one last contents of the slice
@@ -39,7 +33,7 @@ returns-then-out-lt8 c =
 pub returns-then-out-at : goal.returns-then-out-at
 unfolding row_writes
 returns-then-out-at c =
-    let a = (start_of (goal.at.returns-then-out-at c).Else-out-lt8).args in
+    let a = c.args in
     let less : length a.out.now < a.at + 8 = omega (arith, c.if-out-at.true) in
     record { value = short _ _ less; out_after = rw (lt-ltb (length a.out.now) (a.at + 8) less) refl }
 
@@ -50,6 +44,6 @@ pub returns : goal.returns
 unfolding row_refusal row_writes
 returns c =
     let l = (goal.at.returns c).Else-out-at in
-    let a = (start_of (goal.at.Else-out-at l).Else-out-lt8).args in
+    let a = l.args in
     let enough = le-ltb (length a.out.now) (a.at + 8) (room_of l) in
     record { value = rw enough refl; out_after = c.put_row.ensures ∙ rw enough refl }

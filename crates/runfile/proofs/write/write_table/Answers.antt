@@ -17,21 +17,15 @@ use Rattle.runfile.proofs.Written.{
   wrote_given,
   wrote_written,
 }
-use borrow.Author.Rules.{rules}
-use Rattle.runfile.proofs.write.write_table.Statement.{statement}
-use Rattle.runfile.proofs.write.write_table.Tie as tie
 use Rattle.runfile.proofs.write.write_table.Reads as Reads
 use Rattle.runfile.proofs.write.write_table.Goals as goal
-use Rattle.runfile.proofs.write.write_table.Goals.{Else-refusal-ne0, Start}
+use Rattle.runfile.proofs.write.write_table.Goals.{Else-refusal-ne0}
 
-abbrev start_of : Else-refusal-ne0 → Start
-start_of c = (goal.at.Else-refusal-ne0 c).Start
-
-none : (c : Else-refusal-ne0) → write_table_refusal (start_of c).args.n (start_of c).args.rows.now (length (start_of c).args.out.now) ≡ 0
+none : (c : Else-refusal-ne0) → write_table_refusal c.args.n c.args.rows.now (length c.args.out.now) ≡ 0
 none c = sym c.write_table_refusal-refusal.ensures ∙ c.if-refusal-ne0.false
 
 -- what the table passed
-fits : (c : Else-refusal-ne0) → TableWritten (start_of c).args.n (start_of c).args.rows.now (length (start_of c).args.out.now)
+fits : (c : Else-refusal-ne0) → TableWritten c.args.n c.args.rows.now (length c.args.out.now)
 fits c = write_table_accepted _ _ _ (none c)
 
 -- the contract admits one reply, and one last contents of the slice
@@ -44,19 +38,28 @@ unfolding write_table_reply write_table_writes
 returns-then-refusal-ne0 c =
     let e = c.write_table_refusal-refusal.ensures in
     let a = c.args in
-    let some : write_table_refusal a.n a.rows.now (length a.out.now) ≡ 0 → ⊥ = λ z. c.if-refusal-ne0.true (e ∙ z) in
-    record { value = ap (λ (k : ℕ). record { refusal = k; size = 0 }) e ∙ sym (wrote_refused _ _ [] [] some); out_after = sym (wrote_leaves _ 0 _ _ some) }
+    let some : write_table_refusal a.n a.rows.now (length a.out.now) ≡ 0 → ⊥ =
+    λ z. c.if-refusal-ne0.true (e ∙ z) in
+    record {
+      value = ap (λ (k : ℕ). record { refusal = k; size = 0 }) e ∙ sym (wrote_refused _ _ [] [] some);
+      out_after = sym (wrote_leaves _ 0 _ _ some);
+    }
 
 pub put_rows-requires : goal.put_rows-requires
-put_rows-requires c = omega (arith, (fits (goal.at.put_rows-requires c).Else-refusal-ne0).exact, (fits (goal.at.put_rows-requires c).Else-refusal-ne0).enough)
+put_rows-requires c =
+    let f = fits (goal.at.put_rows-requires c).Else-refusal-ne0 in
+    omega (arith, f.exact, f.enough)
 
 pub returns : goal.returns
 unfolding write_table_reply write_table_writes table_file
 returns c =
     let l = (goal.at.returns c).Else-refusal-ne0 in
-    let a = (start_of l).args in
+    let a = l.args in
     let size : 8 * length a.rows.now ≡ 8 * table_rows a.n = omega (arith, (fits l).exact) in
-    record { value = ap (λ (k : ℕ). record { refusal = 0; size = k }) size ∙ sym (wrote_given _ _ [] [] (none l)); out_after = c.put_rows.ensures
+    record {
+      value = ap (λ (k : ℕ). record { refusal = 0; size = k }) size ∙ sym (wrote_given _ _ [] [] (none l));
+      out_after = c.put_rows.ensures
           ∙ put_front _ _
           ∙ ap (λ (k : ℕ). at_front (rows_in_bytes a.rows.now k) a.out.now) (fits l).exact
-          ∙ sym (wrote_written _ 0 _ _ (none l)) }
+          ∙ sym (wrote_written _ 0 _ _ (none l));
+    }

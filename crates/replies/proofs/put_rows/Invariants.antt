@@ -1,0 +1,13 @@
+-- `replies::put_rows` is safe and ends: the slice keeps its length. The measure is the number of rows left. Assumes
+-- nothing.
+use Prim.Native.Nat.{◌-◌}
+use mathlib.Core.Path.{◌≡◌}
+use lib.ListN.{length}
+use borrow.Author.Rules.{rules}
+use Rattle.replies.proofs.put_rows.Given as goal
+
+abbrev pub invariant-loop-k : goal.invariant-loop-k
+invariant-loop-k l = length l.rows ≡ length l.initial.rows
+
+abbrev pub decreases-loop-k : goal.decreases-loop-k
+decreases-loop-k l = l.count - l.k
