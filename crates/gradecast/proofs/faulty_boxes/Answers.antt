@@ -1,10 +1,7 @@
 -- `gradecast::faulty_boxes` meets its contract: after j turns it has counted the faulty boxes below j. What is left of
 -- n falls. Assumes nothing.
-use Prim.Native.Nat.{◌-◌}
 use native.Mathlib.Omega.{arith}
-use Rattle.counting.specs.Sets.{member}
-use Rattle.counting.proofs.Loops.{Counted, count_begins, counts, counts_few, count_ends}
-use borrow.Author.Rules.{rules}
+use Rattle.counting.proofs.Loops.{count_begins, counts, counts_few, count_ends}
 use Rattle.gradecast.proofs.faulty_boxes.Goals as goal
 use Rattle.gradecast.proofs.faulty_boxes.Goals.{In-loop-j}
 

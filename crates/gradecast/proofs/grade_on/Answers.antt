@@ -11,7 +11,6 @@ use Rattle.tally.specs.Tally.{support_of, graded_row}
 use Rattle.gradecast.specs.Inside.{must_count}
 use Rattle.gradecast.proofs.Asked.{on_counted, on_other}
 use Rattle.gradecast.proofs.Columns.{column_fits, part_row, part_support}
-use borrow.Author.Rules.{rules}
 use Rattle.gradecast.proofs.grade_on.Goals as goal
 use Rattle.gradecast.proofs.grade_on.Goals.{Start, Then-must_count}
 

@@ -4,7 +4,6 @@ use mathlib.Core.Path.{◌≡◌, refl, sym, ◌∙◌}
 use mathlib.Core.Bool.{true, false}
 use Rattle.counting.specs.Sets.{member}
 use Rattle.gradecast.specs.Steps.{hears, sends}
-use borrow.Author.Rules.{rules}
 use Rattle.gradecast.proofs.hear.Goals as goal
 use Rattle.gradecast.proofs.hear.Goals.{Else-is_member, Then-is_member-2}
 

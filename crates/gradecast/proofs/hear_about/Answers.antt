@@ -8,7 +8,6 @@ use Rattle.sizes.proofs.Laws.{table_le}
 use Rattle.gradecast.specs.Steps.{hears, sends}
 use Rattle.gradecast.specs.Inside.{heard_from}
 use Rattle.gradecast.proofs.Cells.{place_fits}
-use borrow.Author.Rules.{rules}
 use Rattle.gradecast.proofs.hear_about.Goals as goal
 use Rattle.gradecast.proofs.hear_about.Goals.{After-place_from-place, Start}
 

@@ -1,10 +1,6 @@
 -- `gradecast::hear_plain` meets its contract: after j turns what the senders below j say is put down. What is left of
 -- n falls. Assumes nothing.
-use mathlib.Core.Path.{◌≡◌}
-use Prim.Native.Nat.{◌-◌, ◌≤◌}
 use native.Mathlib.Omega.{arith}
-use lib.ListN.{length}
-use Rattle.gradecast.specs.Inside.{SendersTo, said_by}
 use Rattle.gradecast.proofs.Columns.{senders_turn}
 use borrow.Author.Rules.{rules}
 use Rattle.gradecast.proofs.hear_plain.Goals as goal

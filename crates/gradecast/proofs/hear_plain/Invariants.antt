@@ -2,11 +2,8 @@
 -- n falls. Assumes nothing.
 use mathlib.Core.Path.{◌≡◌}
 use Prim.Native.Nat.{◌-◌, ◌≤◌}
-use native.Mathlib.Omega.{arith}
 use lib.ListN.{length}
 use Rattle.gradecast.specs.Inside.{SendersTo, said_by}
-use Rattle.gradecast.proofs.Columns.{senders_turn}
-use borrow.Author.Rules.{rules}
 use Rattle.gradecast.proofs.hear_plain.Given as goal
 
 abbrev pub invariant-loop-j : goal.invariant-loop-j

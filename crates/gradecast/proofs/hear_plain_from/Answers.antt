@@ -1,12 +1,10 @@
 -- `gradecast::hear_plain_from` meets its contract: after k turns what box j says about the leaders below k is put
 -- down, and the other senders' rows stand as they did. What is left of n falls. Assumes nothing.
 use mathlib.Core.Path.{refl}
-use Prim.Native.Nat.{◌+◌, ◌*◌, ◌-◌, ◌<◌}
+use Prim.Native.Nat.{◌+◌, ◌*◌, ◌<◌}
 use native.Mathlib.Omega.{arith}
-use Rattle.gradecast.specs.Inside.{said_by}
 use Rattle.gradecast.proofs.Cells.{place_fits}
-use Rattle.gradecast.proofs.Columns.{Hearing, sender_begins, sender_turn, sender_fits, sender_ends}
-use borrow.Author.Rules.{rules}
+use Rattle.gradecast.proofs.Columns.{sender_begins, sender_turn, sender_fits, sender_ends}
 use Rattle.gradecast.proofs.hear_plain_from.Goals as goal
 use Rattle.gradecast.proofs.hear_plain_from.Goals.{In-loop-k, Start}
 

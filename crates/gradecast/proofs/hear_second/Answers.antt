@@ -2,10 +2,8 @@
 -- What the senders say that are neither faulty nor listed is there all along, and is what the box hears from them; the
 -- rows of any other sender are put down and leave those as they are. What is left of n falls. Assumes nothing.
 use mathlib.Core.Path.{◌≡◌, sym, ◌∙◌}
-use Prim.Native.Nat.{◌-◌, ◌≤◌}
 use native.Mathlib.Omega.{arith}
-use lib.ListN.{length, get_or}
-use Rattle.gradecast.specs.Inside.{second_from, SendersTo, odd_to, PlainHeard}
+use Rattle.gradecast.specs.Inside.{odd_to}
 use Rattle.gradecast.proofs.Columns.{senders_turn}
 use Rattle.gradecast.proofs.Plain.{plain_turn, plain_stays}
 use borrow.Author.Rules.{rules}

@@ -1,15 +1,10 @@
 -- `gradecast::hear_second` meets its contract: after j turns all that the box hears from the senders below j is there.
 -- What the senders say that are neither faulty nor listed is there all along, and is what the box hears from them; the
 -- rows of any other sender are put down and leave those as they are. What is left of n falls. Assumes nothing.
-use mathlib.Core.Path.{◌≡◌, sym, ◌∙◌}
-use mathlib.Core.Logic.{⊎_elim}
+use mathlib.Core.Path.{◌≡◌}
 use Prim.Native.Nat.{◌-◌, ◌≤◌}
-use native.Mathlib.Omega.{arith}
 use lib.ListN.{length, get_or}
-use Rattle.gradecast.specs.Inside.{second_from, SendersTo, odd_to, PlainHeard}
-use Rattle.gradecast.proofs.Columns.{senders_turn}
-use Rattle.gradecast.proofs.Plain.{plain_turn, plain_stays}
-use borrow.Author.Rules.{rules}
+use Rattle.gradecast.specs.Inside.{second_from, SendersTo, PlainHeard}
 use Rattle.gradecast.proofs.hear_second.Given as goal
 
 abbrev pub invariant-loop-j : goal.invariant-loop-j

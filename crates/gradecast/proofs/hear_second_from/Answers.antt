@@ -1,13 +1,11 @@
 -- `gradecast::hear_second_from` meets its contract: after k turns what the box hears from j about the leaders below k
 -- is put down, and the other senders' rows stand as they did. What is left of n falls. Assumes nothing.
-use Prim.Native.Nat.{◌+◌, ◌*◌, ◌-◌, ◌<◌}
+use Prim.Native.Nat.{◌+◌, ◌*◌, ◌<◌}
 use native.Mathlib.Omega.{arith}
 use Rattle.sizes.proofs.Laws.{square_le}
-use Rattle.gradecast.specs.Inside.{second_from}
 use Rattle.gradecast.proofs.Cells.{place_fits}
 use Rattle.gradecast.proofs.Places.{second_fits}
-use Rattle.gradecast.proofs.Columns.{Hearing, sender_begins, sender_turn, sender_fits, sender_ends}
-use borrow.Author.Rules.{rules}
+use Rattle.gradecast.proofs.Columns.{sender_begins, sender_turn, sender_fits, sender_ends}
 use Rattle.gradecast.proofs.hear_second_from.Goals as goal
 use Rattle.gradecast.proofs.hear_second_from.Goals.{At-loop-k, In-loop-k, Start}
 

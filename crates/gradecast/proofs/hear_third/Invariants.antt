@@ -1,17 +1,10 @@
 -- `gradecast::hear_third` meets its contract: it goes as hear_second does. After j turns all that the box hears from
 -- the senders below j is there, and the echoes of those that are gone through are counted; any other sender is heard
 -- by all boxes alike, and its echo is not counted. What is left of n falls. Assumes nothing.
-use mathlib.Core.Path.{◌≡◌, sym, ap, ◌∙◌}
-use mathlib.Core.Logic.{⊎_elim}
+use mathlib.Core.Path.{◌≡◌}
 use Prim.Native.Nat.{◌-◌, ◌≤◌}
-use native.Mathlib.Omega.{arith}
 use lib.ListN.{length, get_or}
-use Rattle.gradecast.specs.Inside.{third_from, SendersTo, odd_to, PlainHeard, said_here, echoes_of}
-use Rattle.gradecast.proofs.Columns.{senders_turn}
-use Rattle.gradecast.proofs.Echoes.{echoes_begin, echoes_few, echoes_length}
-use Rattle.gradecast.proofs.Echoes.{echoes_turn, echoes_skip, echoes_end}
-use Rattle.gradecast.proofs.Plain.{plain_turn, plain_stays}
-use borrow.Author.Rules.{rules}
+use Rattle.gradecast.specs.Inside.{third_from, SendersTo, PlainHeard, said_here, echoes_of}
 use Rattle.gradecast.proofs.hear_third.Given as goal
 
 abbrev pub invariant-loop-j : goal.invariant-loop-j

@@ -4,18 +4,16 @@
 use mathlib.Core.Path.{◌≡◌, sym, ap, ap₂, ◌∙◌, subst}
 use mathlib.Core.Bool.{cond}
 use mathlib.Core.List.{List}
-use Prim.Native.Nat.{ℕ, ◌+◌, ◌*◌, ◌-◌, ◌≤◌, ◌<◌}
+use Prim.Native.Nat.{ℕ, ◌+◌, ◌*◌, ◌≤◌, ◌<◌}
 use native.Mathlib.Omega.{arith}
 use lib.Dec.{eqb}
 use lib.ListN.{length, get_or}
 use Rattle.counting.proofs.Build.{front_next, front_whole}
 use Rattle.counting.proofs.Count.{one_le}
-use Rattle.counting.proofs.Loops.{Filled, fill_begins, fill_turn, fill_length}
-use Rattle.gradecast.specs.Inside.{third_from, said_here, one_more}
+use Rattle.counting.proofs.Loops.{fill_begins, fill_turn, fill_length}
 use Rattle.gradecast.proofs.Cells.{place_fits}
-use Rattle.gradecast.proofs.Columns.{Hearing, sender_begins, sender_turn, sender_fits, sender_ends}
+use Rattle.gradecast.proofs.Columns.{sender_begins, sender_turn, sender_fits, sender_ends}
 use Rattle.gradecast.proofs.Places.{third_fits}
-use borrow.Author.Rules.{rules}
 use Rattle.gradecast.proofs.hear_third_from.Goals as goal
 use Rattle.gradecast.proofs.hear_third_from.Goals.{At-loop-k, In-loop-k}
 

@@ -1,22 +1,10 @@
 -- `gradecast::hear_third_from` meets its contract: after k turns what the box hears from j about the leaders below k
 -- is put down, the other senders' rows stand as they did, and the echoes of the leaders below k are one more where j
 -- says what the box said itself. They were at most n, so one more fits. What is left of n falls. Assumes nothing.
-use mathlib.Core.Path.{◌≡◌, sym, ap, ap₂, ◌∙◌, subst}
-use mathlib.Core.Bool.{cond}
-use mathlib.Core.List.{List}
-use Prim.Native.Nat.{ℕ, ◌+◌, ◌*◌, ◌-◌, ◌≤◌, ◌<◌}
-use native.Mathlib.Omega.{arith}
-use lib.Dec.{eqb}
-use lib.ListN.{length, get_or}
-use Rattle.counting.proofs.Build.{front_next, front_whole}
-use Rattle.counting.proofs.Count.{one_le}
-use Rattle.counting.proofs.Loops.{Filled, fill_begins, fill_turn, fill_length}
-use Rattle.sizes.proofs.Laws.{square_le, cube_le}
+use Prim.Native.Nat.{◌-◌}
+use Rattle.counting.proofs.Loops.{Filled}
 use Rattle.gradecast.specs.Inside.{third_from, said_here, one_more}
-use Rattle.gradecast.proofs.Cells.{place_fits}
-use Rattle.gradecast.proofs.Columns.{Hearing, sender_begins, sender_turn, sender_fits, sender_ends}
-use Rattle.gradecast.proofs.Places.{third_fits}
-use borrow.Author.Rules.{rules}
+use Rattle.gradecast.proofs.Columns.{Hearing}
 use Rattle.gradecast.proofs.hear_third_from.Given as goal
 
 abbrev pub invariant-loop-k : goal.invariant-loop-k

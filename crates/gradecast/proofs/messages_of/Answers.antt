@@ -7,7 +7,6 @@ use native.Mathlib.Omega.{arith}
 use Rattle.sizes.proofs.Laws.{square_le}
 use Rattle.gradecast.proofs.Messages.{others_le}
 use Rattle.gradecast.proofs.Sent.{length_filled, messages_counted}
-use borrow.Author.Rules.{rules}
 use Rattle.gradecast.proofs.messages_of.Goals as goal
 use Rattle.gradecast.proofs.messages_of.Goals.{After-sent_in, After-sent_in-2}
 

@@ -1,7 +1,6 @@
 -- `gradecast::must_count` meets its contract: it makes the two tests in their order. Assumes nothing.
 use mathlib.Core.Path.{refl, ◌∙◌}
 use borrow.Author.Tests.{eq-eqb, ne_eqb}
-use borrow.Author.Rules.{rules}
 use Rattle.gradecast.proofs.must_count.Goals as goal
 
 pub returns-then-own-eq0 : goal.returns-then-own-eq0

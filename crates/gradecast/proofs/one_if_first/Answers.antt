@@ -2,7 +2,6 @@
 -- Assumes nothing.
 use mathlib.Core.Path.{refl, sym, ◌∙◌}
 use Rattle.sizes.specs.Sizes.{sound}
-use borrow.Author.Rules.{rules}
 use Rattle.gradecast.proofs.one_if_first.Goals as goal
 
 pub returns-then-is_member : goal.returns-then-is_member

@@ -1,6 +1,5 @@
 -- `gradecast::one_if_member` meets its contract: it tells by the test of membership. Assumes nothing.
 use mathlib.Core.Path.{refl, sym, ◌∙◌}
-use borrow.Author.Rules.{rules}
 use Rattle.gradecast.proofs.one_if_member.Goals as goal
 
 pub returns-then-is_member : goal.returns-then-is_member

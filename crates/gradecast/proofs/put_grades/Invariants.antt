@@ -1,10 +1,8 @@
 -- `gradecast::put_grades` meets its contract: after k turns the grades of the leaders below k are put, their rows and
 -- their supports. What is left of n falls. Assumes nothing.
-use Prim.Native.Nat.{◌+◌, ◌*◌, ◌-◌, ◌<◌}
-use native.Mathlib.Omega.{arith}
+use Prim.Native.Nat.{◌-◌}
 use Rattle.gradecast.specs.Inside.{row_by, support_by}
-use Rattle.gradecast.proofs.Cells.{place_fits, Putting, put_begins, put_turn, put_fits, put_ends}
-use borrow.Author.Rules.{rules}
+use Rattle.gradecast.proofs.Cells.{Putting}
 use Rattle.gradecast.proofs.put_grades.Given as goal
 
 abbrev pub invariant-loop-k : goal.invariant-loop-k

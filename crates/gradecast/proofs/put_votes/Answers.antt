@@ -1,10 +1,8 @@
 -- `gradecast::put_votes` meets its contract: after k turns the votes on the leaders below k are put. What is left of n
 -- falls. Assumes nothing.
-use Prim.Native.Nat.{◌+◌, ◌*◌, ◌-◌, ◌<◌}
+use Prim.Native.Nat.{◌+◌, ◌*◌, ◌<◌}
 use native.Mathlib.Omega.{arith}
-use Rattle.gradecast.specs.Inside.{vote_by}
-use Rattle.gradecast.proofs.Cells.{place_fits, Putting, put_begins, put_turn, put_fits, put_ends}
-use borrow.Author.Rules.{rules}
+use Rattle.gradecast.proofs.Cells.{place_fits, put_begins, put_turn, put_fits, put_ends}
 use Rattle.gradecast.proofs.put_votes.Goals as goal
 use Rattle.gradecast.proofs.put_votes.Goals.{In-loop-k}
 

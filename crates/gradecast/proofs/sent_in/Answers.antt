@@ -1,14 +1,9 @@
 -- `gradecast::sent_in` meets its contract: after p turns it has counted the rows in the cells below p. What is left of
 -- the length falls. Assumes nothing.
-use mathlib.Core.Bool.{Bool, not}
-use mathlib.Core.List.{List}
-use Prim.Native.Nat.{ℕ, ◌-◌}
 use native.Mathlib.Omega.{arith}
-use lib.Dec.{eqb}
-use lib.ListN.{length, get_or}
+use lib.ListN.{length}
 use Rattle.counting.proofs.Count.{count_le}
-use Rattle.counting.proofs.Loops.{Counted, count_begins, counts, counts_few, count_ends}
-use borrow.Author.Rules.{rules}
+use Rattle.counting.proofs.Loops.{count_begins, counts, counts_few, count_ends}
 use Rattle.gradecast.proofs.sent_in.Invariants.{holds}
 use Rattle.gradecast.proofs.sent_in.Goals as goal
 use Rattle.gradecast.proofs.sent_in.Goals.{After-one_if_sent-sent, In-loop-p}

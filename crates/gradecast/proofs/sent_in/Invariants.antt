@@ -3,12 +3,9 @@
 use mathlib.Core.Bool.{Bool, not}
 use mathlib.Core.List.{List}
 use Prim.Native.Nat.{ℕ, ◌-◌}
-use native.Mathlib.Omega.{arith}
 use lib.Dec.{eqb}
 use lib.ListN.{length, get_or}
-use Rattle.counting.proofs.Count.{count_le}
-use Rattle.counting.proofs.Loops.{Counted, count_begins, counts, counts_few, count_ends}
-use borrow.Author.Rules.{rules}
+use Rattle.counting.proofs.Loops.{Counted}
 use Rattle.gradecast.proofs.sent_in.Given as goal
 
 -- does cell k hold a row?

@@ -1,11 +1,9 @@
 -- `gradecast::sent_in_step1` meets its contract: after j turns it has counted the sound boxes below j that have a row.
 -- What is left of n falls. Assumes nothing.
-use Prim.Native.Nat.{◌-◌}
 use native.Mathlib.Omega.{arith}
 use Rattle.counting.proofs.Count.{count_le}
-use Rattle.counting.proofs.Loops.{Counted, count_begins, counts, counts_few, count_ends}
+use Rattle.counting.proofs.Loops.{count_begins, counts, counts_few, count_ends}
 use Rattle.gradecast.specs.Inside.{sends_first}
-use borrow.Author.Rules.{rules}
 use Rattle.gradecast.proofs.sent_in_step1.Goals as goal
 use Rattle.gradecast.proofs.sent_in_step1.Goals.{After-one_if_first-sent, In-loop-j}
 

@@ -1,11 +1,8 @@
 -- `gradecast::sent_in_step1` meets its contract: after j turns it has counted the sound boxes below j that have a row.
 -- What is left of n falls. Assumes nothing.
 use Prim.Native.Nat.{◌-◌}
-use native.Mathlib.Omega.{arith}
-use Rattle.counting.proofs.Count.{count_le}
-use Rattle.counting.proofs.Loops.{Counted, count_begins, counts, counts_few, count_ends}
+use Rattle.counting.proofs.Loops.{Counted}
 use Rattle.gradecast.specs.Inside.{sends_first}
-use borrow.Author.Rules.{rules}
 use Rattle.gradecast.proofs.sent_in_step1.Given as goal
 
 abbrev pub invariant-loop-j : goal.invariant-loop-j

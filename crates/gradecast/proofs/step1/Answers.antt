@@ -1,11 +1,8 @@
 -- `gradecast::step1` meets its contract: after i turns the cells of the boxes below i are put. What is left of n
 -- falls. Assumes nothing.
-use mathlib.Core.Path.{◌≡◌, ap, ◌∙◌}
-use Prim.Native.Nat.{◌*◌, ◌-◌, ◌≤◌}
+use mathlib.Core.Path.{ap, ◌∙◌}
 use native.Mathlib.Omega.{arith}
 use lib.ListN.{length}
-use Rattle.gradecast.specs.Cast.{cells_to}
-use Rattle.gradecast.specs.Inside.{first_of_sound}
 use Rattle.gradecast.proofs.Cells.{cells_none, box_turn, box_whole}
 use borrow.Author.Rules.{rules}
 use Rattle.gradecast.proofs.step1.Goals as goal

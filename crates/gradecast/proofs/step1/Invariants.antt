@@ -1,13 +1,10 @@
 -- `gradecast::step1` meets its contract: after i turns the cells of the boxes below i are put. What is left of n
 -- falls. Assumes nothing.
-use mathlib.Core.Path.{◌≡◌, ap, ◌∙◌}
+use mathlib.Core.Path.{◌≡◌}
 use Prim.Native.Nat.{◌*◌, ◌-◌, ◌≤◌}
-use native.Mathlib.Omega.{arith}
 use lib.ListN.{length}
 use Rattle.gradecast.specs.Cast.{cells_to}
 use Rattle.gradecast.specs.Inside.{first_of_sound}
-use Rattle.gradecast.proofs.Cells.{cells_none, box_turn, box_whole}
-use borrow.Author.Rules.{rules}
 use Rattle.gradecast.proofs.step1.Given as goal
 
 abbrev pub invariant-loop-i : goal.invariant-loop-i

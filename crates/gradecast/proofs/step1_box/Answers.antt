@@ -1,15 +1,14 @@
 -- `gradecast::step1_box` meets its contract: a faulty box's cells are 0 as they stand; for a sound box the first k are
 -- put after k turns. What is left of n falls. Assumes nothing.
 use mathlib.Core.Path.{sym, ap, ◌∙◌}
-use Prim.Native.Nat.{ℕ, ◌+◌, ◌*◌, ◌-◌, ◌<◌}
+use Prim.Native.Nat.{ℕ, ◌+◌, ◌*◌, ◌<◌}
 use native.Mathlib.Omega.{arith}
 use lib.ListN.{get_or}
 use Rattle.gradecast.specs.Steps.{hears, sends, heard1}
-use Rattle.gradecast.proofs.Cells.{place_fits, Putting, put_begins, put_turn, put_fits, put_ends}
+use Rattle.gradecast.proofs.Cells.{place_fits, put_begins, put_turn, put_fits, put_ends}
 use Rattle.gradecast.proofs.Cells.{put_skipped, put_same}
 use Rattle.gradecast.proofs.Sound.{of_faulty, of_sound_lem}
 use Rattle.gradecast.proofs.Places.{first_fits}
-use borrow.Author.Rules.{rules}
 use Rattle.gradecast.proofs.step1_box.Goals as goal
 use Rattle.gradecast.proofs.step1_box.Goals.{After-hear, After-is_member, At-loop-k, In-loop-k, Start}
 

@@ -1,11 +1,8 @@
 -- `gradecast::step3` meets its contract: after i turns the votes of the boxes below i are put, and what every box
 -- hears alike is there, as it was put down before the first. What is left of n falls. Assumes nothing.
-use mathlib.Core.Path.{◌≡◌, ◌∙◌}
-use Prim.Native.Nat.{◌-◌, ◌≤◌}
+use mathlib.Core.Path.{◌∙◌}
 use native.Mathlib.Omega.{arith}
-use lib.ListN.{length}
-use Rattle.gradecast.specs.Inside.{PlainHeard, SaidSecond, votes_of_sound}
-use Rattle.gradecast.proofs.Cells.{BoxesTo, boxes_begin, boxes_turn, boxes_end}
+use Rattle.gradecast.proofs.Cells.{boxes_begin, boxes_turn, boxes_end}
 use borrow.Author.Rules.{rules}
 use Rattle.gradecast.proofs.step3.Goals as goal
 

@@ -3,7 +3,6 @@
 -- Y. What every box hears alike stays for the next box. Assumes nothing.
 use mathlib.Core.Path.{sym, ◌∙◌}
 use Rattle.gradecast.proofs.Asked.{seat_faulty, seat_sound, votes_made}
-use borrow.Author.Rules.{rules}
 use Rattle.gradecast.proofs.step3_box.Goals as goal
 
 pub returns-then-is_member : goal.returns-then-is_member

@@ -1,12 +1,10 @@
 -- `gradecast::step4` meets its contract: after i turns the grades of the boxes below i are put, and what every box
 -- hears alike is there, as it was put down before the first. What is left of n falls. Assumes nothing.
-use mathlib.Core.Path.{◌≡◌, sym, ap, ◌∙◌}
+use mathlib.Core.Path.{◌≡◌}
 use Prim.Native.Nat.{◌-◌, ◌≤◌}
-use native.Mathlib.Omega.{arith}
 use lib.ListN.{length}
 use Rattle.gradecast.specs.Inside.{PlainHeard, SaidThird, rows_of_sound, supports_of_sound}
-use Rattle.gradecast.proofs.Cells.{BoxesTo, boxes_begin, boxes_turn, boxes_end}
-use borrow.Author.Rules.{rules}
+use Rattle.gradecast.proofs.Cells.{BoxesTo}
 use Rattle.gradecast.proofs.step4.Given as goal
 
 abbrev pub invariant-loop-i : goal.invariant-loop-i

@@ -5,7 +5,6 @@ use mathlib.Core.Path.{sym, ◌∙◌}
 use native.Mathlib.Omega.{arith}
 use Rattle.gradecast.proofs.Asked.{seat_faulty, seat_sound, rows_made, supports_made}
 use Rattle.gradecast.proofs.Echoes.{echoes_few}
-use borrow.Author.Rules.{rules}
 use Rattle.gradecast.proofs.step4_box.Goals as goal
 
 pub returns-then-is_member : goal.returns-then-is_member

@@ -2,7 +2,6 @@
 use mathlib.Core.Path.{◌≡◌, sym, ◌∙◌}
 use Rattle.gradecast.specs.Cast.{cast_refusal}
 use Rattle.gradecast.proofs.Replies.{steps_ready, steps_sized, cast_refused, cast_taken}
-use borrow.Author.Rules.{rules}
 use Rattle.gradecast.proofs.steps.Reads as Reads
 use Rattle.gradecast.proofs.steps.Goals as goal
 use Rattle.gradecast.proofs.steps.Goals.{Else-refusal-ne0}

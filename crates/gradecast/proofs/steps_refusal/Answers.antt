@@ -5,7 +5,6 @@ use native.Mathlib.Omega.{arith}
 use Rattle.sizes.specs.Sizes.{size_refusal}
 use Rattle.sizes.proofs.Laws.{passes_sized}
 use Rattle.gradecast.proofs.Replies.{steps_fail, steps_cut, steps_pass}
-use borrow.Author.Rules.{rules}
 use Rattle.gradecast.proofs.steps_refusal.Goals as goal
 use Rattle.gradecast.proofs.steps_refusal.Goals.{Else-refusal-ne0}
 

@@ -9,7 +9,6 @@ use Rattle.counting.specs.Sets.{member}
 use Rattle.tally.specs.declared.Voted.{Voted}
 use Rattle.gradecast.proofs.Asked.{on_counted, on_other}
 use Rattle.gradecast.proofs.Columns.{column_fits, part_vote}
-use borrow.Author.Rules.{rules}
 use Rattle.gradecast.proofs.vote_on.Goals as goal
 use Rattle.gradecast.proofs.vote_on.Goals.{Start, Then-is_member}
 

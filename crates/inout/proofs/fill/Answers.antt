@@ -6,7 +6,6 @@ use mathlib.Core.Path.{◌≡◌, refl, sym, ap, ap₂, ◌∙◌}
 use native.Mathlib.Omega.{arith}
 use lib.ListN.{length, take, drop, take-append-drop}
 use lib.Seq.{drop-drop}
-use borrow.Author.Rules.{rules}
 use Rattle.inout.proofs.fill.Reads as Reads
 use Rattle.inout.proofs.fill.Goals as goal
 

@@ -8,7 +8,6 @@ use Rattle.lines.specs.declared.Written.{Written}
 use Rattle.says.specs.Told.{told_text}
 use Rattle.says.proofs.Faults.{text_given, text_within}
 use Rattle.says.proofs.Short.{told_short}
-use borrow.Author.Rules.{rules}
 use Rattle.notebook_make.proofs.tell.Goals as goal
 use Rattle.notebook_make.proofs.tell.Goals.{After-tell-size, Start}
 

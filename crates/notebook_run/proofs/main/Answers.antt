@@ -7,7 +7,6 @@ use lib.ListN.{length}
 use lib.Seq.{length-take-le}
 use Rattle.listing.specs.declared.Listed.{Listed}
 use Rattle.listing.proofs.Whole.{list_within}
-use borrow.Author.Rules.{rules}
 use Rattle.notebook_run.proofs.main.Goals as goal
 use Rattle.notebook_run.proofs.main.Goals.{After-fill-size, After-list-listed}
 

@@ -6,7 +6,6 @@ use lib.ListN.{length}
 use lib.Seq.{length-take-le}
 use Rattle.showing.specs.declared.Shown.{Shown}
 use Rattle.showing.proofs.Room.{show_within}
-use borrow.Author.Rules.{rules}
 use Rattle.notebook_show.proofs.write_part.Goals as goal
 use Rattle.notebook_show.proofs.write_part.Goals.{After-shared_slice_known-1, After-show-size}
 

@@ -3,7 +3,6 @@
 use Prim.Native.Nat.{◌-◌}
 use mathlib.Core.Path.{◌≡◌}
 use lib.ListN.{length}
-use borrow.Author.Rules.{rules}
 use Rattle.notebook_show.proofs.write_parts.Given as goal
 
 abbrev pub invariant-loop-part : goal.invariant-loop-part

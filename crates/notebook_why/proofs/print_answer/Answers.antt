@@ -9,7 +9,6 @@ use Rattle.why.specs.declared.Answered.{Answered}
 use Rattle.why.specs.Answer.{answer_of}
 use Rattle.why.proofs.Answers.{answer_within}
 use Rattle.why.proofs.Room.{answer_whole}
-use borrow.Author.Rules.{rules}
 use Rattle.notebook_why.proofs.print_answer.Goals as goal
 use Rattle.notebook_why.proofs.print_answer.Goals.{After-answer-size, Start}
 

@@ -4,7 +4,6 @@ use Prim.Native.Nat.{◌≤◌}
 use native.Mathlib.Omega.{arith}
 use lib.ListN.{length}
 use lib.Seq.{length-take-le}
-use borrow.Author.Rules.{rules}
 use Rattle.notebook_why.proofs.tell.Goals as goal
 use Rattle.notebook_why.proofs.tell.Goals.{After-fill-size}
 

@@ -2,7 +2,6 @@
 -- Assumes nothing.
 use mathlib.Core.Path.{◌≡◌}
 use lib.ListN.{length}
-use borrow.Author.Rules.{rules}
 use Rattle.replies.proofs.answer_all.Given as goal
 
 abbrev pub invariant-loop-turns : goal.invariant-loop-turns

@@ -3,7 +3,6 @@
 use Prim.Native.Nat.{◌-◌}
 use mathlib.Core.Path.{◌≡◌}
 use lib.ListN.{length}
-use borrow.Author.Rules.{rules}
 use Rattle.replies.proofs.count_up_bytes.Given as goal
 
 abbrev pub invariant-loop-k : goal.invariant-loop-k

@@ -3,7 +3,6 @@
 use Prim.Native.Nat.{◌-◌}
 use mathlib.Core.Path.{◌≡◌}
 use lib.ListN.{length}
-use borrow.Author.Rules.{rules}
 use Rattle.replies.proofs.print_cast.Given as goal
 
 abbrev pub invariant-loop-k : goal.invariant-loop-k

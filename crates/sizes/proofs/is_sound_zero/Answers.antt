@@ -1,7 +1,6 @@
 -- `sizes::is_sound_zero` meets its contract: a faulty box is passed over, and a sound one by its row. Assumes nothing.
 use mathlib.Core.Path.{◌≡◌, refl, sym, ◌∙◌}
 use Rattle.sizes.specs.Sizes.{sound}
-use borrow.Author.Rules.{rules}
 use Rattle.sizes.proofs.is_sound_zero.Reads as Reads
 use Rattle.sizes.proofs.is_sound_zero.Goals as goal
 

@@ -9,7 +9,6 @@ use borrow.Author.Tests.{lt-ltb, le-ltb}
 use Rattle.counting.specs.Most.{support, before}
 use Rattle.counting.proofs.Most.{before_self, before_more, before_fewer, before_tie}
 use Rattle.tally.proofs.Leads.{lead_support, keeps_lead, takes_lead}
-use borrow.Author.Rules.{rules}
 use Rattle.tally.proofs.ahead.Goals as goal
 use Rattle.tally.proofs.ahead.Goals.{After-support_of-support, Else-support-lead, Start}
 

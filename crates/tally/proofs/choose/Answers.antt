@@ -18,7 +18,6 @@ use Rattle.tally.proofs.Replies.{
   firm_none,
   firm_some,
 }
-use borrow.Author.Rules.{rules}
 use Rattle.tally.proofs.choose.Reads as Reads
 use Rattle.tally.proofs.choose.Goals as goal
 use Rattle.tally.proofs.choose.Goals.{After-lead_of-lead, Else-refusal-ne0, Start}

@@ -3,7 +3,6 @@ use mathlib.Core.Path.{◌≡◌, refl, sym, ◌∙◌}
 use native.Mathlib.Omega.{arith}
 use borrow.Author.Tests.{le-leb, lt-leb, lt-ltb, le-ltb}
 use Rattle.tally.specs.Tally.{confidence_at}
-use borrow.Author.Rules.{rules}
 use Rattle.tally.proofs.confidence_at.Reads as Reads
 use Rattle.tally.proofs.confidence_at.Goals as goal
 

@@ -1,13 +1,10 @@
 -- `tally::counted_rows` meets its contract: after i turns the first i places hold the counted rows of leaders below i.
 -- What is left of the length falls. Assumes nothing.
 use mathlib.Core.Bool.{cond}
-use Prim.Native.Nat.{◌≤◌, ◌-◌}
-use native.Mathlib.Omega.{arith}
+use Prim.Native.Nat.{◌-◌}
 use lib.Dec.{eqb}
 use lib.ListN.{length, get_or, replicate}
-use Rattle.counting.proofs.Loops.{Filled, fill_begins, fill_turn, fill_length, fill_fronts}
-use Rattle.tally.specs.Tally.{counted}
-use borrow.Author.Rules.{rules}
+use Rattle.counting.proofs.Loops.{Filled}
 use Rattle.tally.proofs.counted_rows.Given as goal
 
 abbrev pub invariant-loop-i : goal.invariant-loop-i

@@ -1,11 +1,7 @@
 -- `tally::firm_for` meets its contract: after i turns it has counted the leaders below i with confidence 2 that hold
 -- the chosen row. What is left of the length falls. Assumes nothing.
-use mathlib.Core.Bool.{◌&&◌}
-use Prim.Native.Nat.{◌-◌}
 use native.Mathlib.Omega.{arith}
-use lib.Dec.{eqb}
-use lib.ListN.{length, get_or}
-use Rattle.counting.proofs.Loops.{Counted, count_begins, counts, counts_few, count_ends}
+use Rattle.counting.proofs.Loops.{count_begins, counts, counts_few, count_ends}
 use Rattle.tally.specs.Tally.{firm_for}
 use borrow.Author.Rules.{rules}
 use Rattle.tally.proofs.firm_for.Goals as goal

@@ -2,12 +2,9 @@
 -- the chosen row. What is left of the length falls. Assumes nothing.
 use mathlib.Core.Bool.{◌&&◌}
 use Prim.Native.Nat.{◌-◌}
-use native.Mathlib.Omega.{arith}
 use lib.Dec.{eqb}
 use lib.ListN.{length, get_or}
-use Rattle.counting.proofs.Loops.{Counted, count_begins, counts, counts_few, count_ends}
-use Rattle.tally.specs.Tally.{firm_for}
-use borrow.Author.Rules.{rules}
+use Rattle.counting.proofs.Loops.{Counted}
 use Rattle.tally.proofs.firm_for.Given as goal
 
 abbrev pub invariant-loop-i : goal.invariant-loop-i

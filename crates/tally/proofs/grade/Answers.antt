@@ -8,7 +8,6 @@ use Rattle.sizes.proofs.Laws.{passes_sized}
 use Rattle.tally.specs.Tally.{support_of, confidence_of}
 use Rattle.tally.proofs.Laws.{support_le}
 use Rattle.tally.proofs.Replies.{grade_refused, grade_taken, lead_support, lead_confidence, lead_row, no_row}
-use borrow.Author.Rules.{rules}
 use Rattle.tally.proofs.grade.Reads as Reads
 use Rattle.tally.proofs.grade.Goals as goal
 use Rattle.tally.proofs.grade.Goals.{After-confidence_at-confidence, After-lead_of-lead, Start}

@@ -1,10 +1,7 @@
 -- `tally::has_above2` meets its contract: a turn ends the search at a confidence above 2, and otherwise none of the
 -- first i + 1 is. What is left of the length falls. Assumes nothing.
-use Prim.Native.Nat.{◌-◌}
 use native.Mathlib.Omega.{arith}
-use lib.Dec.{ltb}
-use lib.ListN.{length, get_or}
-use Rattle.counting.proofs.Loops.{NoneYet, search_begins, search_turn, search_hits, search_ends}
+use Rattle.counting.proofs.Loops.{search_begins, search_turn, search_hits, search_ends}
 use Rattle.tally.specs.Tally.{above2}
 use borrow.Author.Rules.{rules}
 use Rattle.tally.proofs.has_above2.Goals as goal

@@ -4,7 +4,6 @@ use mathlib.Core.Path.{refl, sym}
 use borrow.Author.Tests.{ne_eqb}
 use Rattle.tally.specs.Tally.{carried}
 use Rattle.tally.proofs.Carried.{carried_zero}
-use borrow.Author.Rules.{rules}
 use Rattle.tally.proofs.is_carried.Goals as goal
 
 pub returns-then-v-eq0 : goal.returns-then-v-eq0

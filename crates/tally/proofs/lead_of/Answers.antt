@@ -2,7 +2,7 @@
 -- lead with more than half of the places is the best of all, and so is one with more places than are left. What is
 -- left of the length falls. Assumes nothing.
 use mathlib.Core.Path.{◌≡◌, refl}
-use Prim.Native.Nat.{◌≤◌, ◌+◌, ◌-◌}
+use Prim.Native.Nat.{◌+◌}
 use native.Mathlib.Omega.{arith}
 use lib.ListN.{length}
 use Rattle.counting.specs.Most.{best, most, support}

@@ -1,7 +1,6 @@
 -- `tally::one_if_firm` meets its contract: with confidence 2 the rows decide, and otherwise it is 0. Assumes nothing.
 use mathlib.Core.Path.{refl}
 use borrow.Author.Tests.{eq-eqb, ne_eqb}
-use borrow.Author.Rules.{rules}
 use Rattle.tally.proofs.one_if_firm.Goals as goal
 
 pub returns-in-2 : goal.returns-in-2

@@ -1,12 +1,9 @@
 -- `tally::places_of` meets its contract: after i turns it has counted the places below i that hold v. What is left of
 -- the length falls. Assumes nothing.
-use Prim.Native.Nat.{◌-◌}
 use native.Mathlib.Omega.{arith}
 use borrow.Author.Rules.{rules}
-use lib.Dec.{eqb}
-use lib.ListN.{length, get_or}
 use Rattle.counting.specs.Most.{places}
-use Rattle.counting.proofs.Loops.{Counted, count_begins, counts, counts_few, count_ends}
+use Rattle.counting.proofs.Loops.{count_begins, counts, counts_few, count_ends}
 use Rattle.tally.proofs.places_of.Goals as goal
 
 pub loop-i-init : goal.loop-i-init

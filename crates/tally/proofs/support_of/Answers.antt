@@ -2,7 +2,6 @@
 use mathlib.Core.Path.{sym, ◌∙◌, ap}
 use Rattle.counting.specs.Most.{support}
 use Rattle.counting.proofs.Most.{support_zero, support_places}
-use borrow.Author.Rules.{rules}
 use Rattle.tally.proofs.support_of.Goals as goal
 
 pub returns-then-v-eq0 : goal.returns-then-v-eq0

@@ -8,7 +8,6 @@ use Rattle.sizes.specs.Sizes.{size_refusal}
 use Rattle.sizes.proofs.Laws.{passes_sized}
 use Rattle.tally.proofs.Replies.{vote_passes, vote_fails, vote_refused, vote_taken}
 use Rattle.tally.proofs.Taken.{never_two}
-use borrow.Author.Rules.{rules}
 use Rattle.tally.proofs.vote.Reads as Reads
 use Rattle.tally.proofs.vote.Goals as goal
 use Rattle.tally.proofs.vote.Goals.{Else-refusal-ne0, Start}

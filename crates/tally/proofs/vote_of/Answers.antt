@@ -2,11 +2,8 @@
 -- the length since 3t < n. The first carried row is the vote, since no other is; and where none of the first t + 1
 -- rows is carried no row is, and the vote is 0. What is left of t + 1 falls. Assumes nothing.
 use mathlib.Core.Path.{sym, ◌∙◌}
-use Prim.Native.Nat.{◌+◌, ◌-◌}
 use native.Mathlib.Omega.{arith}
-use lib.ListN.{get_or}
-use Rattle.counting.proofs.Loops.{NoneYet, search_begins, search_turn, search_ends}
-use Rattle.tally.specs.Tally.{carried}
+use Rattle.counting.proofs.Loops.{search_begins, search_turn, search_ends}
 use Rattle.tally.proofs.Laws.{carried_stands, vote_is, vote_nowhere}
 use borrow.Author.Rules.{rules}
 use Rattle.tally.proofs.vote_of.Goals as goal

@@ -1,14 +1,10 @@
 -- `tally::vote_of` meets its contract: none of the first i rows is carried, and i is at most t + 1, which is within
 -- the length since 3t < n. The first carried row is the vote, since no other is; and where none of the first t + 1
 -- rows is carried no row is, and the vote is 0. What is left of t + 1 falls. Assumes nothing.
-use mathlib.Core.Path.{sym, ◌∙◌}
 use Prim.Native.Nat.{◌+◌, ◌-◌}
-use native.Mathlib.Omega.{arith}
 use lib.ListN.{get_or}
-use Rattle.counting.proofs.Loops.{NoneYet, search_begins, search_turn, search_ends}
+use Rattle.counting.proofs.Loops.{NoneYet}
 use Rattle.tally.specs.Tally.{carried}
-use Rattle.tally.proofs.Laws.{carried_stands, vote_is, vote_nowhere}
-use borrow.Author.Rules.{rules}
 use Rattle.tally.proofs.vote_of.Given as goal
 
 abbrev pub invariant-loop-i : goal.invariant-loop-i

@@ -2,7 +2,6 @@
 use Prim.Native.Nat.{ℕ}
 use mathlib.Core.Path.{◌≡◌}
 use lib.ListN.{length, replicate, length-replicate}
-use borrow.Author.Rules.{rules}
 use Rattle.text_replies.proofs.main.Goals as goal
 
 zeros : (n : ℕ) → length {A = ℕ} (replicate n 0) ≡ n

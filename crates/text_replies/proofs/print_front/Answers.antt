@@ -6,7 +6,6 @@ use lib.ListN.{length}
 use lib.Seq.{length-take-le}
 use Rattle.lines.specs.declared.Written.{Written}
 use Rattle.lines.proofs.Put.{line_within}
-use borrow.Author.Rules.{rules}
 use Rattle.text_replies.proofs.print_front.Goals as goal
 use Rattle.text_replies.proofs.print_front.Goals.{After-write_line-size}
 
