@@ -205,10 +205,12 @@ fn asked_leaders(settings: Settings, number: usize, odd: u16) -> u16
     ensures { AskedFor settings odd result }
 {
     let most = settings.t as usize;
-    if number > most {
+    let too_many = number > most;
+    if too_many {
         return 65535;
     }
-    if odd == settings.faulty {
+    let none_listed = odd == settings.faulty;
+    if none_listed {
         return settings.faulty;
     }
     65535
@@ -464,7 +466,8 @@ fn hear_third(
 fn must_count(hall: Hall, own: u64, k: usize) -> bool
     ensures { result ≡ must_count hall own k }
 {
-    if own == 0 {
+    let silent = own == 0;
+    if silent {
         return true;
     }
     sizes::is_member(hall.asked, k)

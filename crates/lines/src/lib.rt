@@ -157,7 +157,8 @@ pub fn put_line(text: &mut [u8], at: usize, word: &[u8], numbers: &[u64]) -> usi
     ensures text_after { text.new ≡
         put_writes word.now numbers.now text.old at }
 {
-    if text.len() < at {
+    let behind = text.len() < at;
+    if behind {
         return at;
     }
     put_within(text, at, word, numbers)

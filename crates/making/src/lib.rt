@@ -353,7 +353,8 @@ fn take_line(m: Maker, line: &[u8], numbers: &mut [u64], file: &mut [u8]) -> Mak
     if is_comment(line) {
         return next;
     }
-    if 1000 < line.len() {
+    let long = 1000 < line.len();
+    if long {
         return settle(next, next.refusal, 1);
     }
     if is_empty(line) {
@@ -451,7 +452,8 @@ pub fn is_settled(maker: Maker, line: &[u8]) -> bool
     if 3 <= maker.stage {
         return true;
     }
-    if maker.kept <= 1000 {
+    let short = maker.kept <= 1000;
+    if short {
         return false;
     }
     if line.len() <= 1000 {
@@ -537,7 +539,8 @@ fn outcome_by(m: Maker, room: usize) -> Made
 fn left_line(m: Maker, line: &[u8], file: &mut [u8]) -> Maker
     ensures { progress result file.new ≡ left_line m line.now file.old }
 {
-    if m.kept == 0 {
+    let none = m.kept == 0;
+    if none {
         return m;
     }
     let mut numbers = [0u64; 1000];

@@ -79,7 +79,8 @@ fn is_marked(bytes: &[u8]) -> bool
     if bytes[0] != b'H' {
         return false;
     }
-    if bytes[1] != b'N' {
+    let other = bytes[1] != b'N';
+    if other {
         return false;
     }
     bytes[2] == b'B'
@@ -269,7 +270,8 @@ pub fn read_table(n: u8, bytes: &[u8], rows: &mut [u64]) -> u8
     ensures rows_after { rows.new ≡ table_writes n bytes.now rows.old }
 {
     let refused = table_refusal(n, bytes, rows.len());
-    if refused != 0 {
+    let stopped = refused != 0;
+    if stopped {
         return refused;
     }
     write_rows(bytes, 0, sizes::table_rows(n), rows);
@@ -287,7 +289,8 @@ fn part_refusal(bytes: &[u8], from: usize, count: usize, room: usize) -> u8
     if whole - from < count {
         return 8;
     }
-    if room < from + count {
+    let short = room < from + count;
+    if short {
         return 10;
     }
     0

@@ -227,7 +227,8 @@ pub fn tell(refusal: u8, line: u64, fault: u8, out: &mut [u8]) -> Written
     ensures value { result ≡ text_reply (told_text refusal line fault) (length out.old) }
     ensures out_after { out.new ≡ text_writes (told_text refusal line fault) out.old }
 {
-    if refusal != 0 {
+    let refused = refusal != 0;
+    if refused {
         return lines::write_line(out, b"refused", &[refusal as u64]);
     }
     if fault == 0 {

@@ -87,7 +87,8 @@ fn put_place(n: u8, table: u8, place: usize, row: u64, out: &mut [u8], at: usize
     requires { (1 ≤ n) × (n ≤ 13) × (table ≤ 4) × (place < table_rows n) × (at + 40 ≤ length out.old) }
     ensures { Put out.old out.new at result (place_text n table place row) × (result ≤ at + 40) }
 {
-    if row == 0 {
+    let nothing = row == 0;
+    if nothing {
         return at;
     }
     at + says::write_say(n, table, place as u16, row, &mut out[at..]).size

@@ -40,7 +40,8 @@ pub fn size_refusal(n: usize, t: u8) -> u8
     if n < 1 {
         return 4;
     }
-    if 13 < n {
+    let above = 13 < n;
+    if above {
         return 4;
     }
     if n <= 3 * (t as usize) {

@@ -125,7 +125,8 @@ fn ahead(rows: &[u64], lead: Lead, v: u64) -> Lead
     if support < lead.support {
         return lead;
     }
-    if v < lead.row {
+    let lower = v < lead.row;
+    if lower {
         return Lead { row: v, support };
     }
     lead

@@ -70,7 +70,8 @@ pub fn read_number(text: &[u8]) -> Number
             value: 0,
         };
     }
-    if 20 < text.len() {
+    let long = 20 < text.len();
+    if long {
         return Number {
             good: false,
             value: 0,
@@ -151,7 +152,8 @@ fn ask(bytes: &[u8], asked: u64, listed: u64) -> Why
 {
     let last = listing::outcome(bytes);
     let s = last.run;
-    if last.refusal != 0 {
+    let refused = last.refusal != 0;
+    if refused {
         return Why {
             refusal: last.refusal,
             run: s,

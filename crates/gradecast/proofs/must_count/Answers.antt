@@ -3,8 +3,8 @@ use mathlib.Core.Path.{refl, ◌∙◌}
 use borrow.Author.Tests.{eq-eqb, ne_eqb}
 use Rattle.gradecast.proofs.must_count.Goals as goal
 
-pub returns-then-own-eq0 : goal.returns-then-own-eq0
-returns-then-own-eq0 c = rw (eq-eqb _ 0 c.if-own-eq0.true) refl
+pub returns-then-silent : goal.returns-then-silent
+returns-then-silent c = rw (eq-eqb _ 0 c.if-silent.true) refl
 
 pub returns : goal.returns
-returns c = c.is_member.ensures ∙ rw (ne_eqb _ 0 c.if-own-eq0.false) refl
+returns c = c.is_member.ensures ∙ rw (ne_eqb _ 0 c.if-silent.false) refl

@@ -14,9 +14,9 @@ pub only_one : (κs : _) (a : _) (r s : _) (x y : _) → Reads.Post κs a r x �
     (r ≡ s) × (x.0.now ≡ y.0.now)
 only_one κs a r s x y p q = (p.0 ∙ sym q.0, p.1 ∙ sym q.1)
 
-pub returns-then-text-at : goal.returns-then-text-at
+pub returns-then-behind : goal.returns-then-behind
 unfolding put_reply put_writes
-returns-then-text-at c =
+returns-then-behind c =
     let a = c.args in
     let fits = line_within a.word.now a.numbers.now (length a.text.now - a.at) in
     let same = line_beyond a.word.now a.numbers.now a.text.now a.at (omega arith) in

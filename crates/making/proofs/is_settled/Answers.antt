@@ -31,11 +31,11 @@ pub returns-then-maker-ge3 : goal.returns-then-maker-ge3
 unfolding is_settled
 returns-then-maker-ge3 c = rw (le-leb 3 _ c.if-maker-ge3.true) refl
 
-pub returns-then-maker-le1000 : goal.returns-then-maker-le1000
+pub returns-then-short : goal.returns-then-short
 unfolding is_settled
-returns-then-maker-le1000 c =
+returns-then-short c =
     let a = c.args in
-    let less = few a.maker.kept a.line.now c.if-maker-le1000.true in
+    let less = few a.maker.kept a.line.now c.if-short.true in
     rw (lt-leb 3 _ c.if-maker-ge3.false, le-ltb 1000 _ less) refl
 
 pub returns-then-line-le1000 : goal.returns-then-line-le1000
@@ -52,8 +52,8 @@ returns c =
     let a = d.args in
     let kept = a.maker.kept in
     let line = a.line.now in
-    ap not (c.is_comment.ensures ∙ sym (begins_so kept line (omega (arith, d.if-maker-le1000.false))))
+    ap not (c.is_comment.ensures ∙ sym (begins_so kept line (omega (arith, d.if-short.false))))
     ∙ rw (
       lt-leb 3 _ d.if-maker-ge3.false,
-      lt-ltb 1000 _ (long kept line d.if-maker-le1000.false d.if-line-le1000.false),
+      lt-ltb 1000 _ (long kept line d.if-short.false d.if-line-le1000.false),
     ) refl

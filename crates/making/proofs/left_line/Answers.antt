@@ -5,12 +5,12 @@ use Rattle.making.specs.Text.{left_line}
 use Rattle.making.proofs.left_line.Goals as goal
 use Rattle.making.proofs.left_line.Goals.{After-end_line}
 
-pub returns-then-m-eq0 : goal.returns-then-m-eq0
+pub returns-then-none : goal.returns-then-none
 unfolding left_line
-returns-then-m-eq0 c = rw (eq-eqb _ 0 c.if-m-eq0.true) refl
+returns-then-none c = rw (eq-eqb _ 0 c.if-none.true) refl
 
 pub returns : goal.returns
 unfolding left_line
 returns c =
     let e = (goal.at.returns c).After-end_line in
-    e.end_line.ensures ∙ rw (ne_eqb _ 0 e.if-m-eq0.false) refl
+    e.end_line.ensures ∙ rw (ne_eqb _ 0 e.if-none.false) refl

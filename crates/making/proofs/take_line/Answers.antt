@@ -61,14 +61,14 @@ content_of : (c : Else-is_empty) →
 content_of c =
     let a = c.args in
     line_content a.m a.file.now a.line.now (read_of (goal.at.Else-is_empty c).Else-is_comment)
-    c.if-line-gt1000.false (sym c.is_empty.ensures ∙ c.if-is_empty.false)
+    c.if-long.false (sym c.is_empty.ensures ∙ c.if-is_empty.false)
 
 -- where it has been read
 abbrev full_of : After-read_line-words → Else-is_empty
 full_of c = (goal.at.After-read_line-words c).Else-is_empty
 
 short_of : (c : After-read_line-words) → let a = c.args in length a.line.now ≤ length a.numbers.now
-short_of c = omega (arith, c.if-line-gt1000.false, c.requires)
+short_of c = omega (arith, c.if-long.false, c.requires)
 
 -- the line is a word and numbers
 abbrev read_at : Else-words-eq0 → After-read_line-words
@@ -92,19 +92,19 @@ returns-then-is_comment c =
     ap (λ (m : Maker). progress m a.file.now) c.after_line-next.ensures
     ∙ line_comment a.m a.file.now a.line.now (sym c.is_comment.ensures ∙ c.if-is_comment.true)
 
-pub returns-then-line-gt1000 : goal.returns-then-line-gt1000
-returns-then-line-gt1000 c =
-    let e = (goal.at.returns-then-line-gt1000 c).Else-is_comment in
+pub returns-then-long : goal.returns-then-long
+returns-then-long c =
+    let e = (goal.at.returns-then-long c).Else-is_comment in
     let a = e.args in
     fault_of (goal.at.Else-is_comment e).After-is_comment _ 1 c.settle.ensures
-    ∙ line_long a.m a.file.now a.line.now (read_of e) c.if-line-gt1000.true
+    ∙ line_long a.m a.file.now a.line.now (read_of e) c.if-long.true
 
 pub returns-then-is_empty : goal.returns-then-is_empty
 returns-then-is_empty c =
     let a = c.args in
     let read = read_of (goal.at.returns-then-is_empty c).Else-is_comment in
     ap (λ (m : Maker). progress m a.file.now) c.after_line-next.ensures
-    ∙ line_empty a.m a.file.now a.line.now read c.if-line-gt1000.false (sym c.is_empty.ensures ∙ c.if-is_empty.true)
+    ∙ line_empty a.m a.file.now a.line.now read c.if-long.false (sym c.is_empty.ensures ∙ c.if-is_empty.true)
 
 pub returns-then-words-eq0 : goal.returns-then-words-eq0
 returns-then-words-eq0 c =

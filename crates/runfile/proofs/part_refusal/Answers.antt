@@ -32,14 +32,14 @@ returns-then-whole-from-2 c =
     let short : Short c.args.bytes.now c.args.from c.args.count = omega arith in
     sym (refused 8 _ (lt-ltb _ _ short))
 
-pub returns-then-room-from : goal.returns-then-room-from
+pub returns-then-short : goal.returns-then-short
 unfolding part_refusal part_tests
-returns-then-room-from c =
-    let long = long_of (goal.at.returns-then-room-from c).Else-whole-from-2 in
-    sym (passed 8 _ (le-ltb _ _ long) ∙ refused 10 _ (lt-ltb _ _ c.if-room-from.true))
+returns-then-short c =
+    let long = long_of (goal.at.returns-then-short c).Else-whole-from-2 in
+    sym (passed 8 _ (le-ltb _ _ long) ∙ refused 10 _ (lt-ltb _ _ c.if-short.true))
 
 pub returns : goal.returns
 unfolding part_refusal part_tests
 returns c =
     let long = long_of (goal.at.returns c).Else-whole-from-2 in
-    sym (passed 8 _ (le-ltb _ _ long) ∙ passed 10 [] (le-ltb _ _ c.if-room-from.false) ∙ none_left)
+    sym (passed 8 _ (le-ltb _ _ long) ∙ passed 10 [] (le-ltb _ _ c.if-short.false) ∙ none_left)

@@ -16,12 +16,12 @@ pub only_one : (κs : _) (a : _) (r s : _) (x y : _) → Reads.Post κs a r x �
     (r ≡ s) × (x.1.1.1.0.now ≡ y.1.1.1.0.now)
 only_one κs a r s x y p q = (p.0 ∙ sym q.0, p.1 ∙ sym q.1)
 
-pub returns-then-refusal-ne0 : goal.returns-then-refusal-ne0
+pub returns-then-refused : goal.returns-then-refused
 unfolding told_text
-returns-then-refusal-ne0 c =
+returns-then-refused c =
     let a = c.args in
     let e = c.write_line.ensures in
-    rw (ne_eqb a.refusal 0 c.if-refusal-ne0.true)
+    rw (ne_eqb a.refusal 0 c.if-refused.true)
     (record {
       value = e.value ∙ line_told refused_word (a.refusal ∷ []) _;
       out_after = e.out_after ∙ line_kept refused_word (a.refusal ∷ []) _;
@@ -31,7 +31,7 @@ pub returns-then-fault-eq0 : goal.returns-then-fault-eq0
 unfolding told_text
 returns-then-fault-eq0 c =
     let a = c.args in
-    rw (eq-eqb a.refusal 0 c.if-refusal-ne0.false, eq-eqb a.fault 0 c.if-fault-eq0.true)
+    rw (eq-eqb a.refusal 0 c.if-refused.false, eq-eqb a.fault 0 c.if-fault-eq0.true)
     (record {
       value = text_given [] _ 0 refl (omega arith);
       out_after = placed_none a.out.now 0 ∙ text_written [] _ (omega arith);
@@ -41,5 +41,5 @@ pub returns : goal.returns
 unfolding told_text
 returns c =
     let a = c.args in
-    rw (eq-eqb a.refusal 0 c.if-refusal-ne0.false, ne_eqb a.fault 0 c.if-fault-eq0.false)
+    rw (eq-eqb a.refusal 0 c.if-refused.false, ne_eqb a.fault 0 c.if-fault-eq0.false)
     c.tell_fault.ensures

@@ -24,10 +24,10 @@ size_of c =
           a.at c.requires.4 c.write_say.ensures.value,
     )
 
-pub returns-then-row-eq0 : goal.returns-then-row-eq0
-returns-then-row-eq0 c =
+pub returns-then-nothing : goal.returns-then-nothing
+returns-then-nothing c =
     let a = c.args in
-    let none = place_none a.n a.table a.place a.row c.if-row-eq0.true in
+    let none = place_none a.n a.table a.place a.row c.if-nothing.true in
     (rw none (put_nothing _ _), search rules)
 
 pub overflow_cast-place : goal.overflow_cast-place
@@ -42,7 +42,7 @@ pub returns : goal.returns
 returns c =
     let w = (goal.at.returns c).After-write_say in
     let a = w.args in (
-      rw (place_some a.n a.table a.place a.row w.if-row-eq0.false)
+      rw (place_some a.n a.table a.place a.row w.if-nothing.false)
           (say_put a.n a.table a.place a.row w.requires.0 w.requires.1 w.requires.2 w.requires.3
           w.ranges.row.fits w.write_say.result a.out.now _ a.at w.requires.4 w.write_say.ensures.value
           w.write_say.ensures.out_after),

@@ -16,9 +16,9 @@ pub returns-then-n-lt1 : goal.returns-then-n-lt1
 unfolding size_refusal
 returns-then-n-lt1 c = sym (refused 4 _ (outside_low c.args.n c.if-n-lt1.true))
 
-pub returns-then-n-gt13 : goal.returns-then-n-gt13
+pub returns-then-above : goal.returns-then-above
 unfolding size_refusal
-returns-then-n-gt13 c = sym (refused 4 _ (outside_high c.args.n c.if-n-gt13.true))
+returns-then-above c = sym (refused 4 _ (outside_high c.args.n c.if-above.true))
 
 pub returns-then-n-t : goal.returns-then-n-t
 unfolding size_refusal

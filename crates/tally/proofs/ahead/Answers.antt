@@ -53,14 +53,14 @@ returns-then-support-lead c =
     keeps_lead _ _ _ (start_of f).requires
     (before_fewer _ _ _ (omega (arith, own f, f.support_of-support.ensures, c.if-support-lead.true)))
 
-pub returns-then-v-lead-2 : goal.returns-then-v-lead-2
-returns-then-v-lead-2 c =
-    let e = (goal.at.returns-then-v-lead-2 c).Else-support-lead in
+pub returns-then-lower : goal.returns-then-lower
+returns-then-lower c =
+    let e = (goal.at.returns-then-lower c).Else-support-lead in
     let s = (even_of e).support_of-support in
     takes_lead _ (start_of (even_of e)).args.lead _ _ s.ensures
-    (level (even_of e) (even e) ∙ lt-ltb _ _ c.if-v-lead-2.true)
+    (level (even_of e) (even e) ∙ lt-ltb _ _ c.if-lower.true)
 
 pub returns : goal.returns
 returns c =
     let e = (goal.at.returns c).Else-support-lead in
-    keeps_lead _ _ _ (start_of (even_of e)).requires (level (even_of e) (even e) ∙ le-ltb _ _ c.if-v-lead-2.false)
+    keeps_lead _ _ _ (start_of (even_of e)).requires (level (even_of e) (even e) ∙ le-ltb _ _ c.if-lower.false)

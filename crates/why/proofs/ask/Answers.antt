@@ -5,16 +5,16 @@ use Rattle.run.specs.Iteration.{no_reason}
 use Rattle.why.proofs.Answers.{after_refused, after_asked, why_of_lem}
 use Rattle.why.proofs.ask.Goals as goal
 
-pub returns-then-last-ne0 : goal.returns-then-last-ne0
+pub returns-then-refused : goal.returns-then-refused
 unfolding no_reason
-returns-then-last-ne0 c =
+returns-then-refused c =
     let a = c.args in
-    after_refused c.outcome-last.result a.asked a.listed c.if-last-ne0.true
+    after_refused c.outcome-last.result a.asked a.listed c.if-refused.true
     ∙ why_of_lem a.bytes.now a.asked a.listed _ c.outcome-last.ensures
 
 pub returns : goal.returns
 returns c =
     let a = c.args in
     c.why.ensures
-    ∙ after_asked c.outcome-last.result a.asked a.listed c.if-last-ne0.false
+    ∙ after_asked c.outcome-last.result a.asked a.listed c.if-refused.false
     ∙ why_of_lem a.bytes.now a.asked a.listed _ c.outcome-last.ensures

@@ -24,8 +24,8 @@ only_one κs a r s x y p q = p ∙ sym q
 pub returns-then-text-eq0 : goal.returns-then-text-eq0
 returns-then-text-eq0 c = number_empty c.args.text.now c.if-text-eq0.true
 
-pub returns-then-text-gt20 : goal.returns-then-text-gt20
-returns-then-text-gt20 c = number_long c.args.text.now (omega (arith, c.if-text-gt20.true))
+pub returns-then-long : goal.returns-then-long
+returns-then-long c = number_long c.args.text.now (omega (arith, c.if-long.true))
 
 pub loop-i-init : goal.loop-i-init
 loop-i-init c = read_begins c.args.text.now
@@ -51,6 +51,6 @@ returns c =
     let text = c.args.text.now in
     let i = c.loop-i.i in
     let r = c.loop-i.invariant in
-    number_read text c.loop-i.value c.if-text-eq0.false c.if-text-gt20.false
+    number_read text c.loop-i.value c.if-text-eq0.false c.if-long.false
     (read_good text i c.loop-i.value r c.loop-i-test.false)
     (read_value text i c.loop-i.value r c.loop-i-test.false)
