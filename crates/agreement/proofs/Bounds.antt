@@ -12,7 +12,16 @@ use Rattle.counting.specs.Most.{places, support, before, best, most}
 use Rattle.counting.specs.Refuse.{first_of}
 use Rattle.sizes.specs.Sizes.{outside, too_many, stray, table_rows, sound, sound_zero}
 use Rattle.sizes.proofs.Laws.{inside_low, inside_high, tolerated_lt, within_lt}
-use Rattle.tally.specs.Tally.{carried, vote_of, support_of, confidence_at, confidence_of, graded_row, counted, chosen_row}
+use Rattle.tally.specs.Tally.{
+  carried,
+  vote_of,
+  support_of,
+  confidence_at,
+  confidence_of,
+  graded_row,
+  counted,
+  chosen_row,
+}
 use Rattle.gradecast.specs.Steps.{
   place1,
   place_from,

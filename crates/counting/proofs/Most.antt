@@ -61,11 +61,13 @@ supported xs v h = (not_zero, stands)
     stands = record { at = some.at; below = some.below; here = eqb-true (get_or xs some.at 0) v some.passes }
 
 -- a non-zero element has support
-pub element_supported : (xs : List ℕ) (k : ℕ) → k < length xs → (get_or xs k 0 ≡ 0 → ⊥) → 0 < support xs (get_or xs k 0)
+pub element_supported : (xs : List ℕ) (k : ℕ) → k < length xs → (get_or xs k 0 ≡ 0 → ⊥) →
+    0 < support xs (get_or xs k 0)
 unfolding places
 element_supported xs k l h =
     subst (λ (m : ℕ). 0 < m) (sym (support_places xs (get_or xs k 0) h))
-    (some_count_lem (length xs) (λ j. eqb (get_or xs j 0) (get_or xs k 0)) k l (eq-eqb (get_or xs k 0) (get_or xs k 0) refl))
+    (some_count_lem (length xs) (λ j. eqb (get_or xs j 0) (get_or xs k 0)) k l
+    (eq-eqb (get_or xs k 0) (get_or xs k 0) refl))
 
 -- a is not beaten by b: no more support, and not lower where the support is the same
 record Holds (xs : List ℕ) (a b : ℕ) : Type 0 where

@@ -122,7 +122,8 @@ member_or a b k =
     low q (suc zero) (suc (suc y)) hx hy = absurd (omega arith)
 
 -- a loop's turn adds the bit of one more box
-pub set_of_turn : (n : ℕ) (p : ℕ → Bool) {s r : ℕ} → s ≡ set_of n p → r ≡ cond (p n) (2 ^ n) 0 → s + r ≡ set_of (n + 1) p
+pub set_of_turn : (n : ℕ) (p : ℕ → Bool) {s r : ℕ} → s ≡ set_of n p → r ≡ cond (p n) (2 ^ n) 0 →
+    s + r ≡ set_of (n + 1) p
 unfolding set_of
 set_of_turn n p h e = sum_turn n (λ k. cond (p k) (2 ^ k) 0) h e
 

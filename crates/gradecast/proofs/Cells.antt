@@ -127,7 +127,8 @@ module _ {n i : ℕ} (high : n ≤ 13) (below : i < n) (g : ℕ → ℕ) {first 
   put_same b z p = λ f h e. p f (λ k l. h k l ∙ sym (z k l)) e
 
 -- the boxes, one by one
-pub box_turn : (n i : ℕ) (f : ℕ → ℕ → ℕ) {out last : List ℕ} → out ≡ cells_to (i * n) n f → PutTo n i n (f i) out last →
+pub box_turn : (n i : ℕ) (f : ℕ → ℕ → ℕ) {out last : List ℕ} → out ≡ cells_to (i * n) n f →
+    PutTo n i n (f i) out last →
     last ≡ cells_to ((i + 1) * n) n f
 box_turn n i f e p = p f (λ k l. refl) e ∙ ap (λ (m : ℕ). cells_to m n f) (row_after n i)
 

@@ -41,7 +41,8 @@ module _ (faulty : ℕ) (lists : List ℕ) where
       regroup false b c = refl
 
   -- a box that is not among them is on no list
-  pub not_odd_listed : (j : ℕ) → odd_to 13 faulty lists j ≡ false → (i : ℕ) → i < 13 → member (get_or lists i 0) j ≡ false
+  pub not_odd_listed : (j : ℕ) → odd_to 13 faulty lists j ≡ false → (i : ℕ) → i < 13 →
+      member (get_or lists i 0) j ≡ false
   unfolding odd_to
   not_odd_listed j h = any_none 13 listed (or_false_right (member faulty j) (any 13 listed) h)
     where

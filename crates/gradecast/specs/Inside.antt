@@ -1,5 +1,26 @@
 -- What the private functions say of their parts of the work. No promise of the crate names any of it.
-use Rattle.std.specs.Prelude.{ℕ, ◌+◌, ◌-◌, ◌*◌, ◌≤◌, ◌<◌, ◌≡◌, Bool, false, cond, not, ◌||◌, ◌&&◌, List, eqb, length, get_or, take, drop, replicate}
+use Rattle.std.specs.Prelude.{
+  ℕ,
+  ◌+◌,
+  ◌-◌,
+  ◌*◌,
+  ◌≤◌,
+  ◌<◌,
+  ◌≡◌,
+  Bool,
+  false,
+  cond,
+  not,
+  ◌||◌,
+  ◌&&◌,
+  List,
+  eqb,
+  length,
+  get_or,
+  take,
+  drop,
+  replicate,
+}
 use Rattle.counting.specs.Count.{any, count, front}
 use Rattle.counting.specs.Sets.{member}
 use Rattle.sizes.specs.Sizes.{table_rows, sound, Sized}
@@ -56,7 +77,8 @@ AllHeard base s list table said i heard = SendersTo s.n s.n (heard_from base s l
 -- of the rows of sender j, which g gives, the first m are put down; the other senders' rows stay
 pub record FromSender (n j m : ℕ) (g : ℕ → ℕ) (heard last : List ℕ) : Type 0 where
   pub put : (k : ℕ) → k < m → get_or last (k * n + j) 0 ≡ g k
-  pub stays : (k other : ℕ) → other < n → (other ≡ j → ⊥) → get_or last (k * n + other) 0 ≡ get_or heard (k * n + other) 0
+  pub stays : (k other : ℕ) → other < n → (other ≡ j → ⊥) →
+      get_or last (k * n + other) 0 ≡ get_or heard (k * n + other) 0
 
 -- what sender j says about leader k
 abbrev pub said_by : ℕ → List ℕ → ℕ → ℕ → ℕ

@@ -105,7 +105,8 @@ decimal_fewest (suc (suc k)) n f =
     ∙ sym (decimal_large n (omega (arith, pow-suc 10 k, one-le-pow k 10 (omega arith))))
 
 -- so what `io::decimal` puts down is the text, and what it counts is the text's length
-module _ (n k : ℕ) (out : List ℕ) (told : IsPrefixLen k out × (IsDigitCount 10 1 n k × (take k out ≡ last_digits 10 k n))) where
+module _ (n k : ℕ) (out : List ℕ)
+    (told : IsPrefixLen k out × (IsDigitCount 10 1 n k × (take k out ≡ last_digits 10 k n))) where
   pub decimal_told : take k out ≡ decimal n
   decimal_told = told.1.1 ∙ decimal_fewest k n told.1.0
 

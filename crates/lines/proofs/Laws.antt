@@ -97,7 +97,8 @@ module _ (word numbers slice : List ℕ) where
 
   -- the rest stays
   pub line_rest : length (line_of word numbers) ≤ length slice →
-      drop (length (line_of word numbers)) (line_writes word numbers slice) ≡ drop (length (line_of word numbers)) slice
+      drop (length (line_of word numbers)) (line_writes word numbers slice) ≡ drop
+      (length (line_of word numbers)) slice
   line_rest l =
       ap (drop (length (line_of word numbers))) (line_written word numbers slice l)
       ∙ placed_rest slice (line_of word numbers)

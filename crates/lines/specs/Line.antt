@@ -1,6 +1,26 @@
 -- A line of text: a word, then for each number one space and its decimal digits, then one newline. A text is a list
 -- of bytes.
-use Rattle.std.specs.Prelude.{ℕ, zero, suc, ◌+◌, ◌-◌, ◌*◌, ◌/◌, ◌%◌, Bool, cond, List, [], ◌∷◌, ◌++◌, ltb, length, get_or, take, drop}
+use Rattle.std.specs.Prelude.{
+  ℕ,
+  zero,
+  suc,
+  ◌+◌,
+  ◌-◌,
+  ◌*◌,
+  ◌/◌,
+  ◌%◌,
+  Bool,
+  cond,
+  List,
+  [],
+  ◌∷◌,
+  ◌++◌,
+  ltb,
+  length,
+  get_or,
+  take,
+  drop,
+}
 use Rattle.lines.specs.declared.Written.{Written}
 
 -- the digits of n: one below 10, else those of the tenth and one more. The first number is how often a tenth may be

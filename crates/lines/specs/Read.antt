@@ -1,6 +1,24 @@
 -- A line of text that is read: a word, and numbers behind spaces. A text is a list of bytes; a line is given without
 -- its newline.
-use Rattle.std.specs.Prelude.{◌≡◌, ℕ, ◌-◌, ◌^◌, ◌<◌, Bool, true, cond, ◌&&◌, List, [], ◌∷◌, eqb, ltb, length, get_or, take}
+use Rattle.std.specs.Prelude.{
+  ◌≡◌,
+  ℕ,
+  ◌-◌,
+  ◌^◌,
+  ◌<◌,
+  Bool,
+  true,
+  cond,
+  ◌&&◌,
+  List,
+  [],
+  ◌∷◌,
+  eqb,
+  ltb,
+  length,
+  get_or,
+  take,
+}
 use Rattle.lines.specs.Line.{placed, read_on}
 use Rattle.lines.specs.declared.Words.{Words}
 

@@ -156,7 +156,8 @@ module _ (bytes : List ℕ) (all : AllBytes bytes) (taken : ends_with bytes ≡ 
       ap₂ (λ (xs ys : List ℕ). xs ++ ys) (head_again (heading bytes).t)
       (joined_ext (λ m. table_file n_here (table_of n_here bytes m)) (bytes_of n_here bytes) (due bytes)
       (λ m l.
-      table_again n_here (bytes_of n_here bytes m) (table_of n_here bytes m) (part_bytes n_here bytes m all) (table_whole m l)
+      table_again n_here (bytes_of n_here bytes m) (table_of n_here bytes m) (part_bytes n_here bytes m all)
+      (table_whole m l)
       refl))
       ∙ whole (heading bytes).t
 

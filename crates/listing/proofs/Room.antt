@@ -306,7 +306,8 @@ module _ (bytes : List ℕ) where
         build_below (2 ^ 64) (omega arith) _ (table_row (bytes_of (heading bytes).n bytes m))
         (λ k. row_below 0 (bytes_of (heading bytes).n bytes m) k (table_below (heading bytes).n bytes m small)))
 
-    iterations_short : refused_start bytes ≡ 0 → (m : ℕ) → m ≤ done_of bytes → length (iteration_lines bytes m) ≤ m * 442
+    iterations_short : refused_start bytes ≡ 0 → (m : ℕ) → m ≤ done_of bytes →
+        length (iteration_lines bytes m) ≤ m * 442
     unfolding iteration_lines
     iterations_short ok zero l = omega arith
     iterations_short ok (suc m) l =

@@ -131,7 +131,8 @@ module _ {n sender : ℕ} (few : n ≤ 13) (l : sender < n) (bytes table one two
 module _ (n faulty : ℕ) (bytes table : List ℕ) (t : TakenTo n faulty bytes table n) where
   same_at : (p : ℕ) → p < table_rows n → Holds bytes table p →
       get_or (build (table_rows n) (table_row bytes)) p 0 ≡ get_or (take (table_rows n) table) p 0
-  same_at p l h = get_or_build (table_rows n) (table_row bytes) p 0 l ∙ sym h ∙ sym (get_or-take (table_rows n) table p 0 l)
+  same_at p l h = get_or_build (table_rows n) (table_row bytes) p 0 l ∙ sym h
+      ∙ sym (get_or-take (table_rows n) table p 0 l)
 
   pub taken_same : SameLies n faulty (build (table_rows n) (table_row bytes)) (take (table_rows n) table)
   unfolding place1 place2 place3 place_from

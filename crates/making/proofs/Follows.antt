@@ -84,7 +84,8 @@ run_follows : (s : Progress) (named : Bool) (numbers : List ℕ) → Follows s (
 unfolding run_taken
 run_follows s named numbers =
     pick (named && eqb (length numbers) 3)
-    (λ e. reached_follows s 1 (min (get_or numbers 0 0) 255) (min (get_or numbers 1 0) 255) (min (get_or numbers 2 0) 65535)
+    (λ e. reached_follows s 1 (min (get_or numbers 0 0) 255) (min (get_or numbers 1 0) 255)
+    (min (get_or numbers 2 0) 65535)
     s.file (omega arith) refl)
     (λ e. not_understood_lem s 3 (omega arith))
 

@@ -62,7 +62,8 @@ module _ (s : Progress) (named : Bool) (numbers : List ℕ) where
   module _ (is : not named ≡ false) where
     pub run_good : length numbers ≡ 3 →
         progress
-        (reached s.maker 1 (min (get_or numbers 0 0) 255) (min (get_or numbers 1 0) 255) (min (get_or numbers 2 0) 65535))
+        (reached s.maker 1 (min (get_or numbers 0 0) 255) (min (get_or numbers 1 0) 255)
+        (min (get_or numbers 2 0) 65535))
         s.file
         ≡ run_taken s named numbers
     unfolding run_taken
@@ -111,7 +112,8 @@ module _ (s : Progress) (at row : ℕ) where
   said_good h = rw (eq-eqb (row_refusal at (length s.file)) 0 h) refl
 
 -- a row that is refused is not written
-pub row_stays : (row at : ℕ) (slice : List ℕ) → (row_refusal at (length slice) ≡ 0 → ⊥) → row_writes row at slice ≡ slice
+pub row_stays : (row at : ℕ) (slice : List ℕ) → (row_refusal at (length slice) ≡ 0 → ⊥) →
+    row_writes row at slice ≡ slice
 unfolding row_refusal row_writes
 row_stays row at slice h = go (ltb (length slice) (at + 8)) refl
   where

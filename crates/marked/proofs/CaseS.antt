@@ -9,7 +9,16 @@ use Rattle.counting.specs.Sets.{member, set_of}
 use Rattle.counting.specs.Most.{places, support, before, best, most}
 use Rattle.counting.specs.Refuse.{first_of}
 use Rattle.sizes.specs.Sizes.{outside, too_many, stray, sound, sound_zero, table_rows}
-use Rattle.tally.specs.Tally.{carried, vote_of, support_of, confidence_at, confidence_of, graded_row, counted, chosen_row}
+use Rattle.tally.specs.Tally.{
+  carried,
+  vote_of,
+  support_of,
+  confidence_at,
+  confidence_of,
+  graded_row,
+  counted,
+  chosen_row,
+}
 use Rattle.gradecast.specs.Lies.{silent}
 use Rattle.gradecast.specs.Steps.{
   place1,
@@ -111,7 +120,8 @@ unfolding sum count any build find member set_of places support before best most
     sound_zero table_rows carried vote_of support_of confidence_at confidence_of graded_row counted chosen_row place1
     place_from place2 place3 sends hears heard1 heard2 column2 voted heard3 column3 support_for confidence grade_row
     sent_to messages entry graded_rows confidences new_row new_list reason_from reason_in reason_at reasons_of joined
-    joins_now reason_now new_reason next_run start_row start_refusal start_run start_reply no_reasons bad_entry bad_place
+    joins_now reason_now new_reason next_run start_row start_refusal start_run start_reply no_reasons bad_entry
+    bad_place
     too_many_sent listed_by kept without_iteration unlisted not_yet_done confidence_above1 unfit bad_reason bad_reasons
     bad_state iterate_refusal
     iterate_reply after
@@ -122,7 +132,8 @@ unfolding sum count any build find member set_of places support before best most
     sound_zero table_rows carried vote_of support_of confidence_at confidence_of graded_row counted chosen_row place1
     place_from place2 place3 sends hears heard1 heard2 column2 voted heard3 column3 support_for confidence grade_row
     sent_to messages entry graded_rows confidences new_row new_list reason_from reason_in reason_at reasons_of joined
-    joins_now reason_now new_reason next_run bad_entry bad_place too_many_sent listed_by kept without_iteration unlisted
+    joins_now reason_now new_reason next_run bad_entry bad_place too_many_sent listed_by kept without_iteration
+    unlisted
     not_yet_done
     confidence_above1 unfit bad_reason bad_reasons bad_state iterate_refusal iterate_reply
 last_from_first = refl

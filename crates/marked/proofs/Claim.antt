@@ -166,14 +166,19 @@ pub marked_hold : Hold marked
 unfolding sum count any build find member set_of places support before best most first_of outside too_many stray sound
     sound_zero table_rows carried vote_of two_rows support_of confidence_at confidence_of graded_row counted chosen_row
     vote_refusal size_refusal unless vote_reply grade_reply place1 place_from place2 place3 sends hears heard1 heard2
-    column2 voted heard3 column3 support_for confidence grade_row sent_to messages entry graded_rows confidences new_row
-    new_list next_run start_row start_refusal start_run start_reply bad_entry bad_place too_many_sent no_reasons reason_from
+    column2 voted heard3 column3 support_for confidence grade_row sent_to messages entry graded_rows confidences
+    new_row
+    new_list next_run start_row start_refusal start_run start_reply bad_entry bad_place too_many_sent no_reasons
+    reason_from
     reason_in reason_at reasons_of joined joins_now reason_now new_reason listed_by kept without_iteration unlisted
     not_yet_done confidence_above1
-    unfit bad_reason bad_reasons bad_state iterate_refusal iterate_reply after largest_t number has_mark version_of n_of
-    t_byte faulty_of t_of heading_bytes row_from heading_row table_row heading_tests heading_refusal heading_of nothing_read
+    unfit bad_reason bad_reasons bad_state iterate_refusal iterate_reply after largest_t number has_mark version_of
+    n_of
+    t_byte faulty_of t_of heading_bytes row_from heading_row table_row heading_tests heading_refusal heading_of
+    nothing_read
     heading_reply table_tests table_refusal tens decimal field fields line_of or_else table_bytes table_begins bytes_of
-    table_of refused_table heading rows_of reply_after state_after refused_start refused_at due goes_on run_line at_line
+    table_of refused_table heading rows_of reply_after state_after refused_start refused_at due goes_on run_line
+    at_line
     last_line box_line box_lines ended_by passed done_of iteration_lines refused_later ends_with start_line first_lines
     outcome_of listing_of zeros no_reason overdone no_box not_asked why_refusal why_reply
 marked_hold =

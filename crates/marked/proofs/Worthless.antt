@@ -140,7 +140,8 @@ record ComputedBy (v : ℕ) (number : ℕ → ℕ → ℕ → ℕ) : Type 0 wher
   stays1 : get_or (first_only (case_s 1).run (silent 4)).run.rows 1 0 ≡ 20
 
 computed : Computed
-unfolding sum count any build find member places support before best most first_of outside too_many stray sound sound_zero
+unfolding sum count any build find member places support before best most first_of outside too_many stray sound
+    sound_zero
     carried vote_of two_rows support_of confidence_at confidence_of graded_row counted chosen_row firm_for firm_leaders
     above2 vote_refusal size_refusal choice_refusal unless vote_reply grade_reply choice_reply start_refusal start_run
     start_reply after
@@ -166,9 +167,11 @@ computed =
 computed_by : (v : ℕ) (number : ℕ → ℕ → ℕ → ℕ) → ComputedBy v number
 unfolding sum count any build find member set_of places support before best most first_of outside too_many stray sound
     sound_zero table_rows carried vote_of two_rows support_of confidence_at confidence_of graded_row counted chosen_row
-    firm_for firm_leaders above2 vote_refusal size_refusal choice_refusal unless vote_reply grade_reply choice_reply place1
+    firm_for firm_leaders above2 vote_refusal size_refusal choice_refusal unless vote_reply grade_reply choice_reply
+    place1
     place_from place2 place3 sends hears heard1 heard2 column2 voted heard3 column3 confidence grade_row support_for
-    sent_to messages entry graded_rows confidences new_row new_list next_run start_row start_refusal start_run start_reply
+    sent_to messages entry graded_rows confidences new_row new_list next_run start_row start_refusal start_run
+    start_reply
     bad_entry bad_place too_many_sent no_reasons reason_from reason_in reason_at reasons_of joined joins_now reason_now
     new_reason listed_by kept without_iteration unlisted not_yet_done confidence_above1 unfit bad_reason bad_reasons
     bad_state iterate_refusal

@@ -81,7 +81,8 @@ started_lies n t faulty rows a b same = go (eqb (start_refusal n t faulty rows) 
 
 -- starts whose rows differ in faulty boxes' places alone have one reply
 pub calls_start_blind : {n t faulty : ℕ} {a b : List ℕ} {p q : Next} → StartCall n t faulty a p →
-    StartCall n t faulty b q → length a ≡ length b → ((k : ℕ) → SoundBox n faulty k → get_or a k 0 ≡ get_or b k 0) → p ≡ q
+    StartCall n t faulty b q → length a ≡ length b → ((k : ℕ) → SoundBox n faulty k → get_or a k 0 ≡ get_or b k 0) →
+    p ≡ q
 calls_start_blind {n} {t} {faulty} {a} {b} p q whole same =
     start_call_is p ∙ start_blind n t faulty a b whole same ∙ sym (start_call_is q)
 

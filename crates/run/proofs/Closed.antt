@@ -282,7 +282,8 @@ closed_start n t faulty rows e =
     subst Legal (sym (cond_true (start_run n t faulty rows) zeros (eq-eqb (start_refusal n t faulty rows) 0 e)))
     (start_legal n t faulty rows (is_start_accepted n t faulty rows e))
 
-pub closed_iterate : (s : Run) (table : List ℕ) → (iterate_reply s table).refusal ≡ 0 → Legal (iterate_reply s table).run
+pub closed_iterate : (s : Run) (table : List ℕ) → (iterate_reply s table).refusal ≡ 0 →
+    Legal (iterate_reply s table).run
 unfolding iterate_reply
 closed_iterate s table e =
     subst Legal (sym (cond_true (next_run s table) s (eq-eqb (iterate_refusal s table) 0 e)))

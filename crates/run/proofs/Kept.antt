@@ -53,7 +53,8 @@ use Rattle.run.specs.Iteration.{
 use Rattle.run.proofs.Listings.{reason_of}
 
 module _ (n t faulty : ℕ) (rows : List ℕ) where
-  pub start_row_lem : (k : ℕ) → n ≤ 13 → SoundBox n faulty k → get_or (start_run n t faulty rows).rows k 0 ≡ get_or rows k 0
+  pub start_row_lem : (k : ℕ) → n ≤ 13 → SoundBox n faulty k →
+      get_or (start_run n t faulty rows).rows k 0 ≡ get_or rows k 0
   unfolding start_run start_row entry
   start_row_lem k h b =
       let l = b.below in

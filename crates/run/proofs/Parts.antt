@@ -29,7 +29,8 @@ use Rattle.run.specs.Iteration.{graded_rows, confidences, new_row, new_list}
 module _ (n faulty : ℕ) (f : ℕ → ℕ → ℕ) (i : ℕ) (high : n ≤ 13) (below : i < n)
     (is_sound : member faulty i ≡ false) where
   -- a cell of a sound box's part
-  pub cell_of_lem : (xs : List ℕ) → xs ≡ cells n (of_sound faulty f) → (k : ℕ) → k < n → get_or xs (i * n + k) 0 ≡ f i k
+  pub cell_of_lem : (xs : List ℕ) → xs ≡ cells n (of_sound faulty f) → (k : ℕ) → k < n →
+      get_or xs (i * n + k) 0 ≡ f i k
   cell_of_lem xs e k h =
       ap (λ (ys : List ℕ). get_or ys (i * n + k) 0) e ∙ cells_at n (of_sound faulty f) i k below h
       ∙ of_sound_lem faulty f i k is_sound

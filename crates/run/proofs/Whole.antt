@@ -209,7 +209,8 @@ module _ (s : Run) (table : List ℕ) (a : Iterable s table) where
           front_all _ first 169 whole refl ∙ build_ext 169 _ _ (λ p l. go p (p / 13) (p % 13) (place_again p))
         where
           by : (b : Bool) (i k : ℕ) → joins_now s table i k ≡ b →
-              cond b (found i k) (get_or first (13 * i + k) 0) ≡ part (cond b (reason_now s table i k) (reason_at s i k))
+              cond b (found i k) (get_or first (13 * i + k) 0) ≡ part
+              (cond b (reason_now s table i k) (reason_at s i k))
           by true i k e = now i k (joins_is s table i k e)
           by false i k e = before i k
 

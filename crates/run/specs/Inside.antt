@@ -1,7 +1,32 @@
 -- What the private functions say of their parts of the work: what step 5 is given, which is what every sound box found
 -- in step 4, each part in 169 places; what is kept of the boxes that join; and parts of the lists of refusals. No
 -- promise of the crate names any of it.
-use Rattle.std.specs.Prelude.{◌≡◌, Bool, true, false, cond, not, ◌&&◌, ◌||◌, List, [], ◌∷◌, ℕ, ◌+◌, ◌*◌, ◌/◌, ◌%◌, ◌≤◌, ◌<◌, eqb, ltb, length, get_or, take, drop}
+use Rattle.std.specs.Prelude.{
+  ◌≡◌,
+  Bool,
+  true,
+  false,
+  cond,
+  not,
+  ◌&&◌,
+  ◌||◌,
+  List,
+  [],
+  ◌∷◌,
+  ℕ,
+  ◌+◌,
+  ◌*◌,
+  ◌/◌,
+  ◌%◌,
+  ◌≤◌,
+  ◌<◌,
+  eqb,
+  ltb,
+  length,
+  get_or,
+  take,
+  drop,
+}
 use Rattle.counting.specs.Count.{front}
 use Rattle.counting.specs.Refuse.{first_of}
 use Rattle.counting.specs.Refuse.Refusal.{refuse}

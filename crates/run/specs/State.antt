@@ -1,5 +1,24 @@
 -- The start, the iteration with its refusals, and a run of several tables.
-use Rattle.std.specs.Prelude.{ℕ, zero, suc, ◌+◌, ◌*◌, Bool, cond, not, ◌&&◌, ◌||◌, List, [], ◌∷◌, eqb, ltb, length, get_or, replicate}
+use Rattle.std.specs.Prelude.{
+  ℕ,
+  zero,
+  suc,
+  ◌+◌,
+  ◌*◌,
+  Bool,
+  cond,
+  not,
+  ◌&&◌,
+  ◌||◌,
+  List,
+  [],
+  ◌∷◌,
+  eqb,
+  ltb,
+  length,
+  get_or,
+  replicate,
+}
 use Rattle.counting.specs.Count.{any, build}
 use Rattle.counting.specs.Refuse.{first_of}
 use Rattle.counting.specs.Refuse.Refusal.{refuse}

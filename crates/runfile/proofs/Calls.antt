@@ -212,7 +212,8 @@ module _ {bytes slice last : List ℕ} {h : Heading} (d : ReadHeadingCall bytes 
   given_starts =
       subst (λ (q : Heading). Startable q.n q.t q.faulty (take q.n last)) (sym heading_says)
       (subst
-      (λ (xs : List ℕ). Startable (n_of bytes) (t_of (n_of bytes) (t_byte bytes)) (faulty_of bytes) (take (n_of bytes) xs))
+      (λ (xs : List ℕ). Startable (n_of bytes) (t_of (n_of bytes) (t_byte bytes)) (faulty_of bytes)
+      (take (n_of bytes) xs))
       (sym (read_heading_call_is d).1)
       (heading_startable bytes slice heading_passed))
 

@@ -16,7 +16,17 @@ use Rattle.counting.proofs.Refuse.{accepted, passed, none_left}
 use Rattle.sizes.specs.Sizes.{Startable, outside, too_many, stray, sound_zero, table_rows, largest_t}
 use Rattle.sizes.proofs.Laws.{inside_low, tolerated, tolerated_lt, largest_tolerated}
 use Rattle.runfile.specs.declared.Heading.{Heading}
-use Rattle.runfile.specs.File.{has_mark, version_of, n_of, t_byte, t_of, faulty_of, heading_bytes, heading_row, table_row}
+use Rattle.runfile.specs.File.{
+  has_mark,
+  version_of,
+  n_of,
+  t_byte,
+  t_of,
+  faulty_of,
+  heading_bytes,
+  heading_row,
+  table_row,
+}
 use Rattle.counting.specs.Count.{front}
 use Rattle.runfile.specs.Reply.{
   heading_tests,

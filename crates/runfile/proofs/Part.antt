@@ -76,7 +76,8 @@ module _ (from count : ℕ) (bytes slice : List ℕ) (fits : from + count ≤ le
       ap (λ (p : ℕ). get_or (take from slice ++ rest) p 0) place ∙ get_or-append-add (take from slice) rest k 0
 
   -- a place of the part holds the table's row
-  pub part_sets : (p : ℕ) → from ≤ p → p < from + count → get_or (part_of from count bytes slice) p 0 ≡ table_row bytes p
+  pub part_sets : (p : ℕ) → from ≤ p → p < from + count →
+      get_or (part_of from count bytes slice) p 0 ≡ table_row bytes p
   unfolding row_from table_row
   part_sets p l h =
       let k = p - from in

@@ -167,7 +167,8 @@ module _ (n t faulty : ℕ) (rows slice : List ℕ) where
 
   -- a refused call leaves the slice and gives size 0
   pub write_heading_leaves : (write_heading_refusal n t faulty rows (length slice) ≡ 0 → ⊥) →
-      ((write_heading_reply n t faulty rows (length slice)).size ≡ 0) × (write_heading_writes n t faulty rows slice ≡ slice)
+      ((write_heading_reply n t faulty rows (length slice)).size ≡ 0) ×
+      (write_heading_writes n t faulty rows slice ≡ slice)
   unfolding write_heading_reply write_heading_writes
   write_heading_leaves h = (ap (λ (r : Wrote). r.size) (wrote_refused _ _ [] [] h), wrote_leaves _ 0 _ slice h)
 
@@ -197,7 +198,8 @@ module _ (n t faulty : ℕ) (rows slice : List ℕ) where
 
 -- the table writer, the same
 module _ (n : ℕ) (rows slice : List ℕ) where
-  pub write_table_number : (write_table_reply n rows (length slice)).refusal ≡ write_table_refusal n rows (length slice)
+  pub write_table_number : (write_table_reply n rows (length slice)).refusal ≡ write_table_refusal n rows
+      (length slice)
   unfolding write_table_reply
   write_table_number = wrote_number _ _ [] []
 

@@ -1,6 +1,25 @@
 -- The run file, as docs/RUNFILE.md lays it out: where each number stands in the bytes. All numbers are most
 -- significant byte first.
-use Rattle.std.specs.Prelude.{ℕ, zero, suc, ◌+◌, ◌*◌, ◌/◌, ◌%◌, ◌<◌, Bool, cond, ◌&&◌, List, [], ◌∷◌, ◌++◌, eqb, length, get_or}
+use Rattle.std.specs.Prelude.{
+  ℕ,
+  zero,
+  suc,
+  ◌+◌,
+  ◌*◌,
+  ◌/◌,
+  ◌%◌,
+  ◌<◌,
+  Bool,
+  cond,
+  ◌&&◌,
+  List,
+  [],
+  ◌∷◌,
+  ◌++◌,
+  eqb,
+  length,
+  get_or,
+}
 use Rattle.sizes.specs.Sizes.{largest_t}
 
 -- the number in so many bytes from a place on

@@ -83,7 +83,8 @@ place_call n t numbers =
 pub say_call : (n table place row : ℕ) (slice : List ℕ) →
     SayCall n table place row slice (say_reply n table place row (length slice)) (say_writes n table place row slice)
 say_call n table place row slice =
-    SayCall.call ([], tt) (n, (table, (place, (row, (lent_mut slice, tt))))) (say_reply n table place row (length slice))
+    SayCall.call ([], tt) (n, (table, (place, (row, (lent_mut slice, tt)))))
+    (say_reply n table place row (length slice))
     (n, (table, (place, (row, (lent_mut (say_writes n table place row slice), tt))))) (refl, refl)
 
 pub tell_call : (refusal line fault : ℕ) (slice : List ℕ) →

@@ -48,7 +48,8 @@ module _ (text : List ℕ) where
   text_written slice h = sym (cond_false _ _ (le-ltb _ _ h))
 
 -- a line is such a text
-pub line_told : (word numbers : List ℕ) (room : ℕ) → line_reply word numbers room ≡ text_reply (line_of word numbers) room
+pub line_told : (word numbers : List ℕ) (room : ℕ) →
+    line_reply word numbers room ≡ text_reply (line_of word numbers) room
 unfolding line_reply too_short text_reply
 line_told word numbers room = refl
 

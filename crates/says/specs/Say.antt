@@ -1,6 +1,26 @@
 -- The lines `say` of a text, as docs/TEXT.md has them: where in the file the row of a line goes, and the line of a
 -- place of a table. Boxes and iterations count from 1 in the text and from 0 in a place.
-use Rattle.std.specs.Prelude.{ℕ, ◌+◌, ◌-◌, ◌*◌, ◌/◌, ◌%◌, Bool, true, false, cond, ◌&&◌, List, [], ◌∷◌, eqb, leb, ltb, length, get_or}
+use Rattle.std.specs.Prelude.{
+  ℕ,
+  ◌+◌,
+  ◌-◌,
+  ◌*◌,
+  ◌/◌,
+  ◌%◌,
+  Bool,
+  true,
+  false,
+  cond,
+  ◌&&◌,
+  List,
+  [],
+  ◌∷◌,
+  eqb,
+  leb,
+  ltb,
+  length,
+  get_or,
+}
 use Rattle.sizes.specs.Sizes.{outside, size_refusal}
 use Rattle.gradecast.specs.Steps.{place1, place2, place3}
 use Rattle.lines.specs.declared.Written.{Written}

@@ -199,7 +199,8 @@ module _ (bytes : List ℕ) (e : ends_with bytes ≡ 0) (m : ℕ) (due_of : m < 
       ∙ table_written boxes (bytes_of boxes bytes m) slice good)
       ∙ front_take (table_rows boxes) (table_row (bytes_of boxes bytes m)) slice
 
-  pub table_lines : places_text boxes m (λ k. get_or (table_of boxes bytes m) k 0) (table_rows boxes) ≡ table_text bytes m
+  pub table_lines : places_text boxes m (λ k. get_or (table_of boxes bytes m) k 0) (table_rows boxes)
+      ≡ table_text bytes m
   unfolding table_text table_of
   table_lines =
       places_same boxes m _ _ (table_rows boxes)
@@ -247,7 +248,8 @@ module _ (bytes : List ℕ) (part : ℕ) where
         let both = none_refused _ _ z in
         (both.0, go (ltb room (part_room bytes part)) refl both.1)
       where
-        go : (b : Bool) → ltb room (part_room bytes part) ≡ b → ◌≡◌ {A = ℕ} (cond b 10 0) 0 → part_room bytes part ≤ room
+        go : (b : Bool) → ltb room (part_room bytes part) ≡ b → ◌≡◌ {A = ℕ} (cond b 10 0) 0 →
+            part_room bytes part ≤ room
         go true t y = absurd (omega (arith, y))
         go false f y = ltb-false room (part_room bytes part) f
 
@@ -258,7 +260,8 @@ module _ (bytes : List ℕ) (part : ℕ) where
     show_refused d = sym (cond_false _ _ (ne_eqb _ 0 d))
 
     pub show_given : show_refusal bytes part room ≡ 0 →
-        record { refusal = 0; size = length (part_text bytes part); parts = parts_of bytes } ≡ show_reply bytes part room
+        record { refusal = 0; size = length (part_text bytes part); parts = parts_of bytes }
+        ≡ show_reply bytes part room
     unfolding show_reply
     show_given z = sym (cond_true _ _ (eq-eqb _ 0 z))
 

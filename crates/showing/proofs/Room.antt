@@ -140,7 +140,8 @@ module _ (bytes : List ℕ) (good : ends_with bytes ≡ 0) (small : (i : ℕ) �
           (either (leb part (due bytes)))
 
 -- the reply has the refusal's number
-pub show_number : (bytes : List ℕ) (part room : ℕ) → (show_reply bytes part room).refusal ≡ show_refusal bytes part room
+pub show_number : (bytes : List ℕ) (part room : ℕ) →
+    (show_reply bytes part room).refusal ≡ show_refusal bytes part room
 show_number bytes part room = go (ℕ_discrete (show_refusal bytes part room) 0)
   where
     go : Dec (show_refusal bytes part room ≡ 0) → (show_reply bytes part room).refusal ≡ show_refusal bytes part room

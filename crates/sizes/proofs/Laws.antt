@@ -86,7 +86,8 @@ module _ (n t : ℕ) (rest : List Refusal) where
   unfolding size_refusal
   size_given z = refused_first (refuse 4 (outside n) ∷ refuse 5 (too_many n t) ∷ []) rest z
 
-  pub size_passed : size_refusal n t ≡ 0 → first_of (refuse 4 (outside n) ∷ refuse 5 (too_many n t) ∷ rest) ≡ first_of rest
+  pub size_passed : size_refusal n t ≡ 0 →
+      first_of (refuse 4 (outside n) ∷ refuse 5 (too_many n t) ∷ rest) ≡ first_of rest
   unfolding size_refusal
   size_passed e =
       let first = accepted 3 (outside n) (refuse 5 (too_many n t) ∷ []) e in

@@ -1,6 +1,30 @@
 -- The numbers that are allowed (docs/SCOPE.md): boxes, the tolerated, a set of boxes, the rows of a table. Boxes
 -- count from 0 here.
-use Rattle.std.specs.Prelude.{ℕ, ◌+◌, ◌-◌, ◌*◌, ◌/◌, ◌^◌, ◌≤◌, ◌<◌, ◌≡◌, Bool, false, cond, not, ◌&&◌, ◌||◌, List, [], ◌∷◌, eqb, leb, ltb, length, get_or}
+use Rattle.std.specs.Prelude.{
+  ℕ,
+  ◌+◌,
+  ◌-◌,
+  ◌*◌,
+  ◌/◌,
+  ◌^◌,
+  ◌≤◌,
+  ◌<◌,
+  ◌≡◌,
+  Bool,
+  false,
+  cond,
+  not,
+  ◌&&◌,
+  ◌||◌,
+  List,
+  [],
+  ◌∷◌,
+  eqb,
+  leb,
+  ltb,
+  length,
+  get_or,
+}
 use Rattle.counting.specs.Count.{any}
 use Rattle.counting.specs.Sets.{member}
 use Rattle.counting.specs.Refuse.{first_of}

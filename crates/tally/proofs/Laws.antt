@@ -287,7 +287,8 @@ module _ (rows confidences : List ℕ) where
       (built (length rows) (λ k. counted_at (get_or rows k 0) (get_or confidences k 0)) rows refl
       (λ k l. go k (eqb (get_or confidences k 0) 0) refl (h k l))))
     where
-      go : (k : ℕ) (b : Bool) → eqb (get_or confidences k 0) 0 ≡ b → (get_or confidences k 0 ≡ 0 → get_or rows k 0 ≡ 0) →
+      go : (k : ℕ) (b : Bool) → eqb (get_or confidences k 0) 0 ≡ b →
+          (get_or confidences k 0 ≡ 0 → get_or rows k 0 ≡ 0) →
           get_or rows k 0 ≡ cond b 0 (get_or rows k 0)
       go k true e f = f (eqb-true (get_or confidences k 0) 0 e)
       go k false e f = refl

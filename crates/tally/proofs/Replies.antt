@@ -77,7 +77,8 @@ module _ (xs : List ℕ) (t : ℕ) where
   unfolding confidence_of
   lead_confidence lead c e h = h ∙ ap (confidence_at t) (lead_support lead e)
 
-  pub lead_row : (lead : Lead) → lead ≡ lead_of xs (most xs) → (confidence_of t xs ≡ 0 → ⊥) → lead.row ≡ graded_row t xs
+  pub lead_row : (lead : Lead) → lead ≡ lead_of xs (most xs) → (confidence_of t xs ≡ 0 → ⊥) →
+      lead.row ≡ graded_row t xs
   unfolding lead_of graded_row
   lead_row lead e h = ap (λ (l : Lead). l.row) e ∙ sym (cond_false 0 (most xs) (ne_eqb (confidence_of t xs) 0 h))
 

@@ -20,7 +20,17 @@ use Rattle.run.specs.Why.{no_box, not_asked, why_refusal, why_reply}
 use Rattle.run.proofs.Accepted.{good_state}
 use Rattle.run.proofs.Course.{Reached, reached}
 use Rattle.runfile.specs.File.{table_row}
-use Rattle.listing.specs.File.{or_else, bytes_of, table_of, heading, rows_of, reply_after, state_after, refused_at, due}
+use Rattle.listing.specs.File.{
+  or_else,
+  bytes_of,
+  table_of,
+  heading,
+  rows_of,
+  reply_after,
+  state_after,
+  refused_at,
+  due,
+}
 use Rattle.listing.specs.Listing.{ended_by, done_of, ends_with, outcome_of}
 use Rattle.listing.proofs.Ends.{taken_exact}
 use Rattle.listing.proofs.Heading.{first_refused, first_passed, heading_starts}

@@ -8,7 +8,8 @@ use Rattle.gradecast.proofs.confidences_of.Given as goal
 
 abbrev pub invariant-loop-p : goal.invariant-loop-p
 invariant-loop-p l =
-    Filled (l.settings.n * l.settings.n) (λ q. confidence_at l.settings.t (get_or l.supports q 0)) (replicate 169 0) l.p l.out
+    Filled (l.settings.n * l.settings.n) (λ q. confidence_at l.settings.t (get_or l.supports q 0))
+    (replicate 169 0) l.p l.out
 
 abbrev pub decreases-loop-p : goal.decreases-loop-p
 decreases-loop-p l = l.settings.n * l.settings.n - l.p

@@ -7,7 +7,8 @@ use Rattle.gradecast.proofs.hear_second_from.Given as goal
 
 abbrev pub invariant-loop-k : goal.invariant-loop-k
 invariant-loop-k l =
-    Hearing l.seat.hall.settings.n l.j (λ m. second_from l.seat l.list l.table l.said m l.j) l.initial.heard l.k l.heard
+    Hearing l.seat.hall.settings.n l.j
+    (λ m. second_from l.seat l.list l.table l.said m l.j) l.initial.heard l.k l.heard
 
 abbrev pub decreases-loop-k : goal.decreases-loop-k
 decreases-loop-k l = l.seat.hall.settings.n - l.k

@@ -9,9 +9,11 @@ use Rattle.gradecast.proofs.hear_third_from.Given as goal
 
 abbrev pub invariant-loop-k : goal.invariant-loop-k
 invariant-loop-k l =
-    Hearing l.seat.hall.settings.n l.j (λ m. third_from l.seat l.list l.table l.said m l.j) l.initial.heard l.k l.heard ×
+    Hearing l.seat.hall.settings.n l.j
+    (λ m. third_from l.seat l.list l.table l.said m l.j) l.initial.heard l.k l.heard ×
     Filled l.seat.hall.settings.n
-    (one_more (said_here l.seat l.said) (third_from l.seat l.list l.table l.said) l.initial.echoes l.j) l.initial.echoes l.k l.echoes
+    (one_more (said_here l.seat l.said) (third_from l.seat l.list l.table l.said) l.initial.echoes l.j)
+    l.initial.echoes l.k l.echoes
 
 abbrev pub decreases-loop-k : goal.decreases-loop-k
 decreases-loop-k l = l.seat.hall.settings.n - l.k

@@ -51,4 +51,10 @@ returns-then-bytes-end c = record { within = omega arith; front = refl; back = r
 pub returns : goal.returns
 returns c =
     let part = c.fill_part.ensures in
-    record { within = omega (arith, part.within); front = part.front; back = part.back; no_part = λ h. absurd (omega (arith, h)) }
+    record {
+      within = omega (arith, part.within);
+      front = part.front;
+      back = part.back;
+      no_part =
+          λ h. absurd (omega (arith, h));
+    }

@@ -1,5 +1,5 @@
--- `lines::copy` meets its contract: std's copy of a front of one slice to a front of the other is what the clauses say,
--- and Rattle finds that alone. What is proved here is that the contract says all. Assumes nothing.
+-- `lines::copy` meets its contract: std copies the front of one slice to the front of the other, which is what the
+-- clauses say, and Rattle finds that alone. What is proved here is that the contract says all. Assumes nothing.
 use mathlib.Core.Path.{◌≡◌, sym, ap, ◌∙◌}
 use mathlib.Core.List.{◌++◌}
 use Prim.Native.Nat.{ℕ}

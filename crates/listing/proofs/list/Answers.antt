@@ -24,7 +24,8 @@ told c = front_text _ _ _ _ c.tell-told.ensures.0.text
 size_of : (c : After-tell-told) → c.tell-told.result.size ≡ length (listing_of (bytes_of c))
 size_of c = (told c).0
 
-text_long : (c : After-tell-told) → c.tell-told.result.size ≡ length (take c.tell-told.result.size c.tell-told.new.text)
+text_long : (c : After-tell-told) →
+    c.tell-told.result.size ≡ length (take c.tell-told.result.size c.tell-told.new.text)
 text_long c = size_of c ∙ sym (ap length (told c).1)
 
 -- the contract admits one reply, and one last contents of the slice

@@ -28,7 +28,8 @@ whole c =
     let a = (goal.at.After-tell-size c).Start in
     let f = a.args in
     let short = told_short f.refusal f.line f.fault a.ranges.refusal.fits a.ranges.line.fits in
-    ap (λ (w : Written). w.size) (c.tell-size.ensures.value ∙ sym (text_given (told_text f.refusal f.line f.fault) 110 _ refl short))
+    ap (λ (w : Written). w.size) (c.tell-size.ensures.value
+    ∙ sym (text_given (told_text f.refusal f.line f.fault) 110 _ refl short))
 
 pub slice_bounds-write_all-end : goal.slice_bounds-write_all-end
 slice_bounds-write_all-end c = written (goal.at.slice_bounds-write_all-end c).After-tell-size

@@ -30,4 +30,5 @@ pub slice_bounds-text-end : goal.slice_bounds-text-end
 slice_bounds-text-end c = written (goal.at.slice_bounds-text-end c).After-list-listed
 
 pub slice_bounds-write_all-end : goal.slice_bounds-write_all-end
-slice_bounds-write_all-end c = sym (length-take-le _ _ (written (goal.at.slice_bounds-write_all-end c).After-list-listed))
+slice_bounds-write_all-end c =
+    sym (length-take-le _ _ (written (goal.at.slice_bounds-write_all-end c).After-list-listed))

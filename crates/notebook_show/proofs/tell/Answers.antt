@@ -28,13 +28,15 @@ whole c =
     let a = (goal.at.After-tell-size c).Start in
     let f = a.args in
     let short = told_short f.refusal 0 0 a.ranges.refusal.fits (omega arith) in
-    ap (λ (w : Written). w.size) (c.tell-size.ensures.value ∙ sym (text_given (told_text f.refusal 0 0) 110 _ refl short))
+    ap (λ (w : Written). w.size) (c.tell-size.ensures.value
+    ∙ sym (text_given (told_text f.refusal 0 0) 110 _ refl short))
 
 pub slice_bounds-line-end : goal.slice_bounds-line-end
 slice_bounds-line-end c = written (goal.at.slice_bounds-line-end c).After-tell-size
 
 pub slice_bounds-write_all-end : goal.slice_bounds-write_all-end
-slice_bounds-write_all-end c = sym (length-take-le _ _ (written (goal.at.slice_bounds-write_all-end c).After-tell-size))
+slice_bounds-write_all-end c =
+    sym (length-take-le _ _ (written (goal.at.slice_bounds-write_all-end c).After-tell-size))
 
 pub returns : goal.returns
 returns c = whole (goal.at.returns c).After-tell-size

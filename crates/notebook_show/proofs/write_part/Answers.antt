@@ -26,4 +26,5 @@ pub slice_bounds-write_all-end : goal.slice_bounds-write_all-end
 slice_bounds-write_all-end c = written (goal.at.slice_bounds-write_all-end c).After-show-size
 
 pub slice_bounds-write_all-end-2 : goal.slice_bounds-write_all-end-2
-slice_bounds-write_all-end-2 c = sym (length-take-le _ _ (written (goal.at.slice_bounds-write_all-end-2 c).After-show-size))
+slice_bounds-write_all-end-2 c =
+    sym (length-take-le _ _ (written (goal.at.slice_bounds-write_all-end-2 c).After-show-size))

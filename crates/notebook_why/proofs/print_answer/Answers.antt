@@ -27,7 +27,8 @@ written p =
     )
 
 -- all of it was written
-whole : (p : After-answer-size) → let a = (start_of p).args in p.answer-size.result.size ≡ length (answer_of a.file.now a.asked a.listed)
+whole : (p : After-answer-size) →
+    let a = (start_of p).args in p.answer-size.result.size ≡ length (answer_of a.file.now a.asked a.listed)
 whole p =
     let a = (start_of p).args in
     ap (λ (r : Answered). r.size) p.answer-size.ensures.value
@@ -37,7 +38,8 @@ pub slice_bounds-text-end : goal.slice_bounds-text-end
 slice_bounds-text-end c = written (goal.at.slice_bounds-text-end c).After-answer-size
 
 pub slice_bounds-write_all-end : goal.slice_bounds-write_all-end
-slice_bounds-write_all-end c = sym (length-take-le _ _ (written (goal.at.slice_bounds-write_all-end c).After-answer-size))
+slice_bounds-write_all-end c =
+    sym (length-take-le _ _ (written (goal.at.slice_bounds-write_all-end c).After-answer-size))
 
 pub returns : goal.returns
 returns c = whole (goal.at.returns c).After-answer-size

@@ -15,4 +15,5 @@ pub slice_bounds-file-end : goal.slice_bounds-file-end
 slice_bounds-file-end c = came (goal.at.slice_bounds-file-end c).After-fill-size
 
 pub slice_bounds-print_answer-end : goal.slice_bounds-print_answer-end
-slice_bounds-print_answer-end c = sym (length-take-le _ _ (came (goal.at.slice_bounds-print_answer-end c).After-fill-size))
+slice_bounds-print_answer-end c =
+    sym (length-take-le _ _ (came (goal.at.slice_bounds-print_answer-end c).After-fill-size))

@@ -24,7 +24,8 @@ own : (c : After-support_of-support) → (start_of c).args.lead.support ≡ supp
 own c = lead_support _ _ (start_of c).args.v (start_of c).requires
 
 -- with as much support the lower row is before the other
-level : (c : After-support_of-support) → let a = (start_of c).args in a.lead.support ≡ c.support_of-support.result → before (rows_at c) a.lead.row a.v ≡ ltb a.v a.lead.row
+level : (c : After-support_of-support) → let a = (start_of c).args in a.lead.support ≡ c.support_of-support.result →
+    before (rows_at c) a.lead.row a.v ≡ ltb a.v a.lead.row
 level c e = before_tie _ _ _ (sym (own c) ∙ e ∙ c.support_of-support.ensures)
 
 -- where neither has more

@@ -32,7 +32,8 @@ returns-then-rows-gt13 c = sym (refused 4 _ (outside_high _ c.if-rows-gt13.true)
 
 pub returns-then-rows-confidences : goal.returns-then-rows-confidences
 unfolding choice_refusal
-returns-then-rows-confidences c = sym (passed 4 _ (within (goal.at.returns-then-rows-confidences c).Else-rows-gt13) ∙ refused 11 _ (not_of_false (ne_eqb _ _ c.if-rows-confidences.true)))
+returns-then-rows-confidences c = sym (passed 4 _ (within (goal.at.returns-then-rows-confidences c).Else-rows-gt13)
+    ∙ refused 11 _ (not_of_false (ne_eqb _ _ c.if-rows-confidences.true)))
 
 pub returns-then-has_above2 : goal.returns-then-has_above2
 unfolding choice_refusal

@@ -35,14 +35,16 @@ confidences_of c = (start_of c).args.confidences.now
 taken : (c : Else-refusal-ne0) → choice_refusal (rows_at c) (confidences_of c) ≡ 0
 taken c = sym c.choice_refusal-refusal.ensures ∙ c.if-refusal-ne0.false
 
-sizes : (c : Else-refusal-ne0) → (1 ≤ length (rows_at c)) × (length (rows_at c) ≤ 13) × (length (rows_at c) ≡ length (confidences_of c))
+sizes : (c : Else-refusal-ne0) →
+    (1 ≤ length (rows_at c)) × (length (rows_at c) ≤ 13) × (length (rows_at c) ≡ length (confidences_of c))
 sizes c = choice_lengths (rows_at c) (confidences_of c) (taken c)
 
 -- where the lead is found
 abbrev passed_of : After-lead_of-lead → Else-refusal-ne0
 passed_of c = (goal.at.After-lead_of-lead c).Else-refusal-ne0
 
-chosen : (c : After-lead_of-lead) → c.lead_of-lead.result.row ≡ chosen_row (rows_at (passed_of c)) (confidences_of (passed_of c))
+chosen : (c : After-lead_of-lead) →
+    c.lead_of-lead.result.row ≡ chosen_row (rows_at (passed_of c)) (confidences_of (passed_of c))
 chosen c =
     lead_chosen _ _ _
     (subst (λ (xs : List ℕ). c.lead_of-lead.result ≡ lead_of xs (most xs)) c.counted_rows-counted.ensures.1
@@ -59,12 +61,14 @@ pub counted_rows-counted-requires : goal.counted_rows-counted-requires
 counted_rows-counted-requires c = ((sizes c).1, (sizes c).2)
 
 pub slice_bounds-counted-end : goal.slice_bounds-counted-end
-slice_bounds-counted-end c = omega (arith, (sizes (goal.at.slice_bounds-counted-end c).Else-refusal-ne0).1, c.counted_rows-counted.ensures.0)
+slice_bounds-counted-end c =
+    omega (arith, (sizes (goal.at.slice_bounds-counted-end c).Else-refusal-ne0).1, c.counted_rows-counted.ensures.0)
 
 pub slice_bounds-lead_of-end : goal.slice_bounds-lead_of-end
 slice_bounds-lead_of-end c =
     let found = c.counted_rows-counted in
-    sym (length-take-le _ found.result (omega (arith, (sizes (goal.at.slice_bounds-lead_of-end c).Else-refusal-ne0).1, found.ensures.0)))
+    sym (length-take-le _ found.result
+    (omega (arith, (sizes (goal.at.slice_bounds-lead_of-end c).Else-refusal-ne0).1, found.ensures.0)))
 
 pub returns-then-lead-eq0 : goal.returns-then-lead-eq0
 returns-then-lead-eq0 c =

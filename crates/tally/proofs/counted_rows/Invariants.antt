@@ -9,7 +9,8 @@ use Rattle.tally.proofs.counted_rows.Given as goal
 
 abbrev pub invariant-loop-i : goal.invariant-loop-i
 invariant-loop-i l =
-    Filled (length l.rows) (λ k. cond (eqb (get_or l.confidences k 0) 0) 0 (get_or l.rows k 0)) (replicate 13 0) l.i l.out
+    Filled (length l.rows) (λ k. cond (eqb (get_or l.confidences k 0) 0) 0 (get_or l.rows k 0))
+    (replicate 13 0) l.i l.out
 
 abbrev pub decreases-loop-i : goal.decreases-loop-i
 decreases-loop-i l = length l.rows - l.i

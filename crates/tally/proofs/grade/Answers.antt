@@ -23,7 +23,9 @@ supported : (c : After-lead_of-lead) → c.lead_of-lead.result.support ≡ suppo
 supported c = lead_support _ (start_of c).args.t _ c.lead_of-lead.ensures
 
 -- the confidence is that of the grade
-is : (c : After-confidence_at-confidence) → let a = (start_of (goal.at.After-confidence_at-confidence c).After-lead_of-lead).args in c.confidence_at-confidence.result ≡ confidence_of a.t a.rows.now
+is : (c : After-confidence_at-confidence) →
+    let a = (start_of (goal.at.After-confidence_at-confidence c).After-lead_of-lead).args in
+    c.confidence_at-confidence.result ≡ confidence_of a.t a.rows.now
 is c = lead_confidence _ _ _ _ c.lead_of-lead.ensures c.confidence_at-confidence.ensures
 
 -- the contract admits one reply
@@ -43,11 +45,13 @@ overflow_cast-support c =
 pub returns-then-confidence-eq0 : goal.returns-then-confidence-eq0
 returns-then-confidence-eq0 c =
     let f = (goal.at.returns-then-confidence-eq0 c).After-lead_of-lead in
-    let none = sym (is (goal.at.returns-then-confidence-eq0 c).After-confidence_at-confidence) ∙ c.if-confidence-eq0.true in
+    let none = sym (is (goal.at.returns-then-confidence-eq0 c).After-confidence_at-confidence)
+    ∙ c.if-confidence-eq0.true in
     grade_taken _ _ 0 0 _ (taken f) (no_row _ _ none) (sym none) (supported f)
 
 pub returns : goal.returns
 returns c =
     let f = (goal.at.returns c).After-lead_of-lead in
-    let row = lead_row _ _ _ f.lead_of-lead.ensures (λ z. c.if-confidence-eq0.false (is (goal.at.returns c).After-confidence_at-confidence ∙ z)) in
+    let row = lead_row _ _ _ f.lead_of-lead.ensures
+    (λ z. c.if-confidence-eq0.false (is (goal.at.returns c).After-confidence_at-confidence ∙ z)) in
     grade_taken _ _ _ _ _ (taken f) row (is (goal.at.returns c).After-confidence_at-confidence) (supported f)

@@ -13,7 +13,8 @@ use Rattle.tally.proofs.lead_of.Goals as goal
 use Rattle.tally.proofs.lead_of.Goals.{After-ahead-lead}
 
 -- the lead is the best of one row more
-next_lead : (c : After-ahead-lead) → let rows = c.args.rows.now in c.ahead-lead.result ≡ lead_of rows (best rows (c.loop-i.i + 1))
+next_lead : (c : After-ahead-lead) →
+    let rows = c.args.rows.now in c.ahead-lead.result ≡ lead_of rows (best rows (c.loop-i.i + 1))
 next_lead c = lead_turn _ _ _ _ c.loop-i.invariant.1 c.ahead-lead.ensures
 
 pub loop-i-init : goal.loop-i-init
@@ -24,7 +25,8 @@ pub ahead-lead-requires : goal.ahead-lead-requires
 ahead-lead-requires c = own_lead _ _ _ c.loop-i.invariant.1
 
 pub returns-then-rows-lead : goal.returns-then-rows-lead
-returns-then-rows-lead c = lead_most _ _ (own_lead _ _ _ (next_lead (goal.at.returns-then-rows-lead c).After-ahead-lead)) c.if-rows-lead.true
+returns-then-rows-lead c =
+    lead_most _ _ (own_lead _ _ _ (next_lead (goal.at.returns-then-rows-lead c).After-ahead-lead)) c.if-rows-lead.true
 
 pub returns-then-rows-i : goal.returns-then-rows-i
 returns-then-rows-i c =

@@ -22,4 +22,5 @@ pub slice_bounds-write_all-end : goal.slice_bounds-write_all-end
 slice_bounds-write_all-end c = fits (goal.at.slice_bounds-write_all-end c).After-write_line-size
 
 pub slice_bounds-write_all-end-2 : goal.slice_bounds-write_all-end-2
-slice_bounds-write_all-end-2 c = sym (length-take-le _ _ (fits (goal.at.slice_bounds-write_all-end-2 c).After-write_line-size))
+slice_bounds-write_all-end-2 c =
+    sym (length-take-le _ _ (fits (goal.at.slice_bounds-write_all-end-2 c).After-write_line-size))
