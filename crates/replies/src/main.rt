@@ -1,6 +1,6 @@
 // Answers the requests of docs/REQUESTS.md: calls each public function of the library on any numbers and any bytes,
-// and prints every field of its reply and every place of what was lent to it. `inout::fill` and `inout::print_line`
-// have no requests of their own: all that is read and all that is printed goes through them.
+// and prints every field of its reply and every place of what was lent to it. `inout::fill`, `inout::print_line` and
+// `lines::copy` have no requests of their own: all that is read and all that is printed goes through them.
 #![tactic(auto)]
 
 ghost use Rattle.std.specs.Prelude.{◌≡◌, ◌+◌, ◌*◌, ◌≤◌, ◌<◌, length};
