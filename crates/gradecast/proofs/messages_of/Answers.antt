@@ -44,7 +44,7 @@ pub overflow_add-boxes-2 : goal.overflow_add-boxes-2
 overflow_add-boxes-2 c = omega (arith, all_small (goal.at.overflow_add-boxes-2 c).After-sent_in-2)
 
 pub overflow_sub-result : goal.overflow_sub-result
-overflow_sub-result c = c.requires.0
+overflow_sub-result c = omega arith
 
 pub overflow_mul-result : goal.overflow_mul-result
 overflow_mul-result c =
