@@ -1,6 +1,7 @@
 // Answers requests of docs/REQUESTS.md: calls public functions of the library on any numbers and any bytes, and prints
-// every field of the reply and every place of what was lent. `text_replies` does the same for those of texts. `inout::fill`, `inout::print_line` and
-// `lines::copy` have no requests of their own: all that is read and all that is printed goes through them.
+// every field of the reply and every place of what was lent. `text_replies` does the same for those of texts.
+// `inout::fill`, `inout::print_line` and `lines::copy` have no requests of their own: all that is read and all that is
+// printed goes through them.
 #![tactic(auto)]
 
 ghost use Rattle.std.specs.Prelude.{◌≡◌, ◌+◌, ◌*◌, ◌≤◌, ◌<◌, length};
