@@ -80,7 +80,8 @@ module _ (n : ℕ) (numbers : List ℕ) where
   said_third d1 d2 = rw (ne_eqb (step_in numbers) 1 d1, ne_eqb (step_in numbers) 2 d2) refl
 
   -- steps 2 and 3 at once
-  said_later : (k : ℕ) → k < 2 → step_in numbers ≡ 2 + k → place_said n numbers ≡ n * n + (k * (n * n * n) + triple)
+  said_later : (k : ℕ) → k < 2 → step_in numbers ≡ 2 + k →
+      place_said n numbers ≡ n * n + (k * (n * n * n) + triple)
   said_later zero h e = said_second e ∙ omega (arith, zero-mul (n * n * n))
   said_later (suc zero) h e =
       said_third (λ x. omega (arith, e, x)) (λ x. omega (arith, e, x)) ∙ omega (arith, one-mul (n * n * n))
@@ -134,7 +135,8 @@ pub record Names (n t table place row : ℕ) (numbers : List ℕ) : Type 0 where
 less_one : (k : ℕ) → 1 + k - 1 ≡ k
 less_one k = omega arith
 
-at_place : (n table place : ℕ) (numbers : List ℕ) → iteration_in numbers ≡ table + 1 → place_said n numbers ≡ place →
+at_place : (n table place : ℕ) (numbers : List ℕ) → iteration_in numbers ≡ table + 1 →
+    place_said n numbers ≡ place →
     say_at n numbers ≡ table_begins n table + 8 * place
 unfolding say_at
 at_place n table place numbers i p =
@@ -210,23 +212,26 @@ line_of_place n t table place row low few inside =
 
 -- the numbers of a line, one by one
 listed5 : (numbers : List ℕ) → length numbers ≡ 5 →
-    numbers ≡ iteration_in numbers ∷ step_in numbers ∷ sender_in numbers ∷ receiver_in numbers ∷ row_in numbers ∷ []
+    numbers ≡ iteration_in numbers ∷ step_in numbers ∷ sender_in numbers ∷ receiver_in numbers
+    ∷ row_in numbers ∷ []
 unfolding build
 listed5 numbers five =
     built 5 (λ k. get_or numbers k 0) numbers five (λ k l. refl)
     ∙ ap
-    (λ (row : ℕ). iteration_in numbers ∷ step_in numbers ∷ sender_in numbers ∷ receiver_in numbers ∷ row ∷ [])
+    (λ (row : ℕ).
+    iteration_in numbers ∷ step_in numbers ∷ sender_in numbers ∷ receiver_in numbers ∷ row ∷ [])
     (ap (λ (k : ℕ). get_or numbers (k - 1) 0) (sym five))
 
 listed6 : (numbers : List ℕ) → length numbers ≡ 6 →
-    numbers ≡ iteration_in numbers ∷ step_in numbers ∷ sender_in numbers ∷ receiver_in numbers ∷ leader_in numbers
-    ∷ row_in numbers ∷ []
+    numbers ≡ iteration_in numbers ∷ step_in numbers ∷ sender_in numbers ∷ receiver_in numbers
+    ∷ leader_in numbers ∷ row_in numbers ∷ []
 unfolding build
 listed6 numbers six =
     built 6 (λ k. get_or numbers k 0) numbers six (λ k l. refl)
     ∙ ap
     (λ (row : ℕ).
-    iteration_in numbers ∷ step_in numbers ∷ sender_in numbers ∷ receiver_in numbers ∷ leader_in numbers ∷ row ∷ [])
+    iteration_in numbers ∷ step_in numbers ∷ sender_in numbers ∷ receiver_in numbers
+    ∷ leader_in numbers ∷ row ∷ [])
     (ap (λ (k : ℕ). get_or numbers (k - 1) 0) (sym six))
 
 -- the other way: the line of the place that a line names
@@ -268,7 +273,9 @@ module _ (n t : ℕ) (numbers : List ℕ) (m : Meant n t numbers) where
       omega (arith, place, sum) in
       let behind : n * n ≤ place_said n numbers = omega (arith, place) in
       let first : 2 + q / (n * n * n) ≡ step_in numbers =
-      ap (λ (x : ℕ). 2 + x / (n * n * n)) digits ∙ ap (λ (x : ℕ). 2 + x) (first_digit k hs hr hl) ∙ sym step in
+      ap (λ (x : ℕ). 2 + x / (n * n * n)) digits
+      ∙ ap (λ (x : ℕ). 2 + x) (first_digit k hs hr hl)
+      ∙ sym step in
       let second : 1 + q / (n * n) % n ≡ sender_in numbers =
       one_more m.sender (ap (λ (x : ℕ). x / (n * n) % n) digits ∙ second_digit k hs hr hl) in
       let third : 1 + q / n % n ≡ receiver_in numbers =

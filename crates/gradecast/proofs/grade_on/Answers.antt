@@ -14,15 +14,11 @@ use Rattle.gradecast.proofs.Columns.{column_fits, part_row, part_support}
 use Rattle.gradecast.proofs.grade_on.Goals as goal
 use Rattle.gradecast.proofs.grade_on.Goals.{Start, Then-must_count}
 
--- the entry, from where leader k is to be counted
-abbrev start : Then-must_count → Start
-start c = (goal.at.Then-must_count c).Start
-
 -- leader k's column lies within what was heard
-fits : (c : Then-must_count) → let a = (start c).args in let n = a.hall.settings.n in a.k * n + n ≤ length a.heard.now
-fits c = let p = (start c).requires in column_fits (start c).args.heard.now p.0 p.1 p.4
+fits : (c : Then-must_count) → let a = c.args in let n = a.hall.settings.n in a.k * n + n ≤ length a.heard.now
+fits c = let p = c.requires in column_fits c.args.heard.now p.0 p.1 p.4
 
-is_counted : (c : Then-must_count) → let a = (start c).args in must_count a.hall a.own a.k ≡ true
+is_counted : (c : Then-must_count) → let a = c.args in must_count a.hall a.own a.k ≡ true
 is_counted c = sym c.must_count.ensures ∙ c.if-must_count.true
 
 pub overflow_mul-from : goal.overflow_mul-from
@@ -40,8 +36,8 @@ slice_bounds-grade-end c = omega (arith, fits c)
 pub returns-then-must_count : goal.returns-then-must_count
 returns-then-must_count c =
     let counted = (goal.at.returns-then-must_count c).Then-must_count in
-    let a = (start counted).args in
-    let p = (start counted).requires in (
+    let a = counted.args in
+    let p = counted.requires in (
       ap (λ (r : Graded). r.row) c.grade-graded.ensures
           ∙ part_row a.hall.settings p.0 p.1 a.heard.now p.4
           ∙ sym (on_counted _ _ _ _ _ _ (is_counted counted)),

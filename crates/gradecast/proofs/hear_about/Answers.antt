@@ -11,13 +11,9 @@ use Rattle.gradecast.proofs.Cells.{place_fits}
 use Rattle.gradecast.proofs.hear_about.Goals as goal
 use Rattle.gradecast.proofs.hear_about.Goals.{After-place_from-place, Start}
 
--- the entry, from where the place is known
-abbrev start : After-place_from-place → Start
-start c = (goal.at.After-place_from-place c).Start
-
 -- the cell that is read is among the 169
-within : (c : After-place_from-place) → let a = (start c).args in a.j * a.seat.hall.settings.n + a.k < 169
-within c = let p = (start c).requires in place_fits p.0.high p.1.is_leader p.2
+within : (c : After-place_from-place) → let a = c.args in a.j * a.seat.hall.settings.n + a.k < 169
+within c = let p = c.requires in place_fits p.0.high p.1.is_leader p.2
 
 pub place_from-place-requires : goal.place_from-place-requires
 place_from-place-requires c =
@@ -41,7 +37,7 @@ pub returns : goal.returns
 unfolding heard_from
 returns c =
     let placed = (goal.at.returns c).After-place_from-place in
-    let a = (start placed).args in
+    let a = placed.args in
     let s = a.seat.hall.settings in
     let own = get_or a.said.now (a.j * s.n + a.k) 0 in
     let row : ℕ → ℕ = λ m. hears a.list a.j (sends s.faulty a.table.now a.j m own) in

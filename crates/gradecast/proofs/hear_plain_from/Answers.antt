@@ -8,14 +8,10 @@ use Rattle.gradecast.proofs.Columns.{sender_begins, sender_turn, sender_fits, se
 use Rattle.gradecast.proofs.hear_plain_from.Goals as goal
 use Rattle.gradecast.proofs.hear_plain_from.Goals.{In-loop-k, Start}
 
--- the entry, from a turn
-abbrev start : In-loop-k → Start
-start c = (goal.at.In-loop-k c).Start
-
 -- the cell that is read and the cell that is put are among the 169
-within : (c : In-loop-k) → let a = (start c).args in (a.j * a.n + c.loop-k.k < 169) × (c.loop-k.k * a.n + a.j < 169)
+within : (c : In-loop-k) → let a = c.args in (a.j * a.n + c.loop-k.k < 169) × (c.loop-k.k * a.n + a.j < 169)
 within c =
-    let p = (start c).requires in
+    let p = c.requires in
     let is_leader = c.loop-k-test.true in
     (place_fits p.0 p.1 is_leader, place_fits p.0 is_leader p.1)
 
@@ -34,13 +30,13 @@ offset_bounds-said-j c = omega (arith, (within c).0)
 pub bounds-heard-k : goal.bounds-heard-k
 bounds-heard-k c =
     let turn = (goal.at.bounds-heard-k c).In-loop-k in
-    let p = (start turn).requires in
+    let p = turn.requires in
     sender_fits p.0 p.1 _ p.2 turn.loop-k.invariant turn.loop-k-test.true
 
 pub loop-k-preserved : goal.loop-k-preserved
 loop-k-preserved c =
     let turn = (goal.at.loop-k-preserved c).In-loop-k in
-    let p = (start turn).requires in
+    let p = turn.requires in
     sender_turn p.0 p.1 _ p.2 _ _ turn.loop-k.invariant turn.loop-k-test.true refl
 
 pub returns : goal.returns

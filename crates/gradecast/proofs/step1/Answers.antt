@@ -8,17 +8,13 @@ use borrow.Author.Rules.{rules}
 use Rattle.gradecast.proofs.step1.Goals as goal
 use Rattle.gradecast.proofs.step1.Goals.{After-step1_box, At-loop-i, Start}
 
--- the entry, from the loop
-abbrev start : At-loop-i → Start
-start c = (goal.at.At-loop-i c).Start
-
 pub loop-i-init : goal.loop-i-init
 loop-i-init c = (search rules, search rules, c.requires.1 ∙ cells_none _ _)
 
 pub step1_box-requires : goal.step1_box-requires
 step1_box-requires c =
     let so_far = (goal.at.step1_box-requires c).At-loop-i in
-    let p = (start so_far).requires in
+    let p = so_far.requires in
     (p.0, c.loop-i-test.true, so_far.loop-i.invariant.1 ∙ ap length p.1)
 
 pub loop-i-preserved : goal.loop-i-preserved

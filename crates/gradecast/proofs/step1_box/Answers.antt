@@ -34,12 +34,12 @@ within c = let p = (start c).requires in place_fits p.0.high p.1 c.loop-k-test.t
 
 pub returns-then-is_member : goal.returns-then-is_member
 returns-then-is_member c =
-    let p = (entry (goal.at.returns-then-is_member c).After-is_member).requires in
+    let p = c.requires in
     let is_faulty = sym c.is_member.ensures ∙ c.if-is_member.true in
     put_skipped p.0.high p.1 _ (λ k l. of_faulty _ _ _ _ is_faulty)
 
 pub bounds-lists-i : goal.bounds-lists-i
-bounds-lists-i c = let p = (entry (goal.at.bounds-lists-i c).After-is_member).requires in omega (arith, p.0.high, p.1)
+bounds-lists-i c = let p = c.requires in omega (arith, p.0.high, p.1)
 
 pub loop-k-init : goal.loop-k-init
 loop-k-init c = put_begins _ _ _ _
@@ -78,7 +78,7 @@ loop-k-preserved c =
 pub returns : goal.returns
 returns c =
     let test = tested (goal.at.returns c).At-loop-k in
-    let p = (entry test).requires in
+    let p = test.requires in
     let is_sound = sym test.is_member.ensures ∙ c.if-is_member.false in
     put_same p.0.high p.1 _ _ (λ k l. sym (of_sound_lem _ _ _ _ is_sound))
     (put_ends p.0.high p.1 _ c.loop-k.invariant (omega arith))

@@ -12,15 +12,11 @@ use Rattle.gradecast.proofs.Columns.{column_fits, part_vote}
 use Rattle.gradecast.proofs.vote_on.Goals as goal
 use Rattle.gradecast.proofs.vote_on.Goals.{Start, Then-is_member}
 
--- the entry, from where leader k is asked
-abbrev start : Then-is_member → Start
-start c = (goal.at.Then-is_member c).Start
-
 -- leader k's column lies within what was heard
-fits : (c : Then-is_member) → let a = (start c).args in let n = a.hall.settings.n in a.k * n + n ≤ length a.heard.now
-fits c = let p = (start c).requires in column_fits (start c).args.heard.now p.0 p.1 p.2
+fits : (c : Then-is_member) → let a = c.args in let n = a.hall.settings.n in a.k * n + n ≤ length a.heard.now
+fits c = let p = c.requires in column_fits c.args.heard.now p.0 p.1 p.2
 
-is_asked : (c : Then-is_member) → let a = (start c).args in member a.hall.asked a.k ≡ true
+is_asked : (c : Then-is_member) → let a = c.args in member a.hall.asked a.k ≡ true
 is_asked c = sym c.is_member.ensures ∙ c.if-is_member.true
 
 pub overflow_mul-from : goal.overflow_mul-from
@@ -38,8 +34,8 @@ slice_bounds-vote-end c = omega (arith, fits c)
 pub returns-then-is_member : goal.returns-then-is_member
 returns-then-is_member c =
     let asked = (goal.at.returns-then-is_member c).Then-is_member in
-    let a = (start asked).args in
-    let p = (start asked).requires in
+    let a = asked.args in
+    let p = asked.requires in
     ap (λ (r : Voted). r.row) c.vote.ensures
     ∙ part_vote a.hall.settings p.0 p.1 a.heard.now p.2
     ∙ sym (on_counted _ _ _ _ _ _ (is_asked asked))

@@ -13,12 +13,9 @@ use Rattle.lines.proofs.Walk.{part, walk_begins, walk_bad, walk_skips, walk_turn
 use Rattle.lines.proofs.find_numbers.Goals as goal
 use Rattle.lines.proofs.find_numbers.Goals.{After-read_piece-part, Else-not-part, At-loop-at, In-loop-at, Start}
 
-abbrev start_of : At-loop-at → Start
-start_of h = (goal.at.At-loop-at h).Start
-
 -- there is a word
-word_of : (h : At-loop-at) → 0 < length (word_in (start_of h).args.line.now)
-word_of h = omega (arith, (start_of h).requires, h.if-word-eq0.false)
+word_of : (h : At-loop-at) → 0 < length (word_in h.args.line.now)
+word_of h = omega (arith, h.requires, h.if-word-eq0.false)
 
 -- the piece has been read, and is a number or empty
 abbrev inside_of : Else-not-part → In-loop-at
@@ -30,7 +27,7 @@ good_of c = not-false _ c.if-not-part.false
 next_of : (c : Else-not-part) →
     let head = (goal.at.In-loop-at (inside_of c)).At-loop-at in
     c.read_piece-part.result.next
-    ≡ head.loop-at.at + 1 + length (part (start_of head).args.line.now head.loop-at.at)
+    ≡ head.loop-at.at + 1 + length (part head.args.line.now head.loop-at.at)
 next_of c = c.read_piece-part.ensures.next_value (good_of c)
 
 pub returns-then-word-eq0 : goal.returns-then-word-eq0
@@ -50,7 +47,7 @@ pub returns-then-not-part : goal.returns-then-not-part
 returns-then-not-part c =
     let call = (goal.at.returns-then-not-part c).After-read_piece-part in
     let head = (goal.at.After-read_piece-part call).At-loop-at in
-    let line = (start_of head).args.line.now in
+    let line = head.args.line.now in
     let bad =
     walk_bad line head.loop-at.at head.loop-at.count head.loop-at.invariant call.loop-at-test.true
     (sym call.read_piece-part.ensures.good_value ∙ not-true _ c.if-not-part.true) in
@@ -63,7 +60,7 @@ pub loop-at-preserved-then-at-part : goal.loop-at-preserved-then-at-part
 loop-at-preserved-then-at-part c =
     let call = (goal.at.loop-at-preserved-then-at-part c).After-read_piece-part in
     let head = (goal.at.After-read_piece-part call).At-loop-at in
-    walk_turn (start_of head).args.line.now head.loop-at.at head.loop-at.count head.loop-at.invariant
+    walk_turn head.args.line.now head.loop-at.at head.loop-at.count head.loop-at.invariant
     call.loop-at-test.true
     call.read_piece-part.result.next
     (next_of (goal.at.loop-at-preserved-then-at-part c).Else-not-part)
@@ -77,7 +74,7 @@ pub loop-at-preserved : goal.loop-at-preserved
 loop-at-preserved c =
     let call = (goal.at.loop-at-preserved c).After-read_piece-part in
     let head = (goal.at.After-read_piece-part call).At-loop-at in
-    walk_skips (start_of head).args.line.now head.loop-at.at head.loop-at.count head.loop-at.invariant
+    walk_skips head.args.line.now head.loop-at.at head.loop-at.count head.loop-at.invariant
     call.loop-at-test.true
     call.read_piece-part.result.next
     (next_of (goal.at.loop-at-preserved c).Else-not-part)
@@ -87,7 +84,7 @@ loop-at-preserved c =
 pub returns : goal.returns
 returns c =
     let head = (goal.at.returns c).At-loop-at in
-    let line = (start_of head).args.line.now in
+    let line = head.args.line.now in
     let at = head.loop-at.at in
     let count = head.loop-at.count in
     let end = c.loop-at-test.false in

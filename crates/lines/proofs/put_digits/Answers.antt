@@ -16,27 +16,21 @@ one_is : (c : Then-n-lt10) → decimal c.args.n ≡ (48 + c.args.n) ∷ []
 one_is c = decimal_small c.args.n c.if-n-lt10.true
 
 -- two digits
-abbrev two_of : Then-n-lt100 → Start
-two_of c = (goal.at.Then-n-lt100 c).Start
-
-two_is : (c : Then-n-lt100) → let n = (two_of c).args.n in decimal n ≡ (48 + n / 10) ∷ (48 + n % 10) ∷ []
-two_is c = decimal_two (two_of c).args.n c.if-n-lt10.false c.if-n-lt100.true
+two_is : (c : Then-n-lt100) → let n = c.args.n in decimal n ≡ (48 + n / 10) ∷ (48 + n % 10) ∷ []
+two_is c = decimal_two c.args.n c.if-n-lt10.false c.if-n-lt100.true
 
 -- more: the digits that were put down
-abbrev start_of : After-decimal-size → Start
-start_of c = (goal.at.After-decimal-size c).Start
-
 abbrev digits_of : After-decimal-size → List ℕ
 digits_of c = take c.decimal-size.result c.decimal-size.new.out
 
-digits_are : (c : After-decimal-size) → digits_of c ≡ decimal (start_of c).args.n
+digits_are : (c : After-decimal-size) → digits_of c ≡ decimal c.args.n
 digits_are c =
     let told = c.decimal-size.ensures in
-    decimal_told (start_of c).args.n c.decimal-size.result c.decimal-size.new.out
+    decimal_told c.args.n c.decimal-size.result c.decimal-size.new.out
     (told.in_bounds, (told.len, told.digits))
 
-room_of : (c : After-decimal-size) → (start_of c).args.at + length (digits_of c) ≤ length (start_of c).args.out.now
-room_of c = omega (arith, (start_of c).requires, ap length (digits_are c))
+room_of : (c : After-decimal-size) → c.args.at + length (digits_of c) ≤ length c.args.out.now
+room_of c = omega (arith, c.requires, ap length (digits_are c))
 
 pub bounds-out-at : goal.bounds-out-at
 bounds-out-at c = omega (arith, ap length (one_is c))
@@ -65,7 +59,7 @@ bounds-out-at-then-n-lt100-2 c = simp length-set (omega (arith, ap length (two_i
 
 pub returns-then-n-lt100 : goal.returns-then-n-lt100
 returns-then-n-lt100 c =
-    let f = (two_of c).args in
+    let f = c.args in
     let out = f.out.now in
     let two = two_is c in
     let first = placed_one out f.at (48 + f.n / 10) (omega (arith, ap length two)) in
@@ -86,7 +80,7 @@ pub returns : goal.returns
 returns c =
     let copy = c.copy in
     let digits = (goal.at.returns c).After-decimal-size in
-    let f = (start_of digits).args in
+    let f = digits.args in
     let out = f.out.now in
     let text = digits_of digits in
     let told = digits_are digits in

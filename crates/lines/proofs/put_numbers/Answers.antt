@@ -11,12 +11,9 @@ use borrow.Author.Rules.{rules}
 use Rattle.lines.proofs.put_numbers.Goals as goal
 use Rattle.lines.proofs.put_numbers.Goals.{At-loop-i, In-loop-i, Start}
 
-abbrev start_of : At-loop-i → Start
-start_of c = (goal.at.At-loop-i c).Start
-
-long_of : (c : At-loop-i) → length c.loop-i.out ≡ length (start_of c).args.out.now
+long_of : (c : At-loop-i) → length c.loop-i.out ≡ length c.args.out.now
 long_of c =
-    let f = (start_of c).args in
+    let f = c.args in
     let numbers = f.numbers.now in
     ap length c.loop-i.invariant.1.1
     ∙ placed_length f.out.now f.at (fields numbers c.loop-i.i)
@@ -24,10 +21,10 @@ long_of c =
 
 -- there is room for one number more
 room_of : (c : In-loop-i) →
-    let f = (start_of (goal.at.In-loop-i c).At-loop-i).args in
+    let f = c.args in
     f.at + length (fields f.numbers.now (c.loop-i.i + 1)) ≤ length f.out.now
 room_of c =
-    let numbers = (start_of (goal.at.In-loop-i c).At-loop-i).args.numbers.now in
+    let numbers = c.args.numbers.now in
     omega (arith, fields_more numbers (c.loop-i.i + 1) (length numbers) (search rules))
 
 pub loop-i-init : goal.loop-i-init
@@ -37,14 +34,14 @@ loop-i-init c = (search rules, (search rules, placed_none _ _))
 pub put_number-end-requires : goal.put_number-end-requires
 put_number-end-requires c =
     let head = (goal.at.put_number-end-requires c).At-loop-i in
-    let longer = fields_longer (start_of head).args.numbers.now head.loop-i.i in
+    let longer = fields_longer head.args.numbers.now head.loop-i.i in
     omega (arith, room_of (goal.at.put_number-end-requires c).In-loop-i, long_of head)
 
 pub loop-i-preserved : goal.loop-i-preserved
 loop-i-preserved c =
     let inside = (goal.at.loop-i-preserved c).In-loop-i in
     let head = (goal.at.In-loop-i inside).At-loop-i in
-    let f = (start_of head).args in
+    let f = head.args in
     let put = c.put_number-end in
     let numbers = f.numbers.now in
     let i = head.loop-i.i in

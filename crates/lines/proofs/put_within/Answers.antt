@@ -12,26 +12,23 @@ use Rattle.lines.proofs.Put.{line_within}
 use Rattle.lines.proofs.put_within.Goals as goal
 use Rattle.lines.proofs.put_within.Goals.{After-write_line, Start}
 
-abbrev start_of : After-write_line → Start
-start_of c = (goal.at.After-write_line c).Start
-
 abbrev text_of : After-write_line → List ℕ
-text_of c = (start_of c).args.text.now
+text_of c = c.args.text.now
 
 is : (c : After-write_line) →
-    let f = (start_of c).args in
+    let f = c.args in
     c.write_line.result.size ≡ (line_reply f.word.now f.numbers.now (length (text_of c) - f.at)).size
 is c =
-    let f = (start_of c).args in
+    let f = c.args in
     ap (λ (w : Written). w.size) c.write_line.ensures.value
     ∙ ap (λ (k : ℕ). (line_reply f.word.now f.numbers.now k).size)
     (ap length (rest_whole (text_of c) f.at) ∙ length-drop f.at (text_of c))
 
-within : (c : After-write_line) → (start_of c).args.at + c.write_line.result.size ≤ length (text_of c)
+within : (c : After-write_line) → c.args.at + c.write_line.result.size ≤ length (text_of c)
 within c =
-    let f = (start_of c).args in
+    let f = c.args in
     let fits = line_within f.word.now f.numbers.now (length (text_of c) - f.at) in
-    omega (arith, is c, fits, (start_of c).requires)
+    omega (arith, is c, fits, c.requires)
 
 pub overflow_add-result : goal.overflow_add-result
 overflow_add-result c = omega (arith, within (goal.at.overflow_add-result c).After-write_line)
@@ -40,7 +37,7 @@ pub returns : goal.returns
 unfolding put_reply put_writes
 returns c =
     let last = (goal.at.returns c).After-write_line in
-    let f = (start_of last).args in
+    let f = last.args in
     let at = f.at in
     let text = text_of last in
     record {

@@ -31,11 +31,8 @@ use Rattle.lines.proofs.read_line.Goals.{
   Start,
 }
 
-abbrev start_of : After-word_size-word → Start
-start_of c = (goal.at.After-word_size-word c).Start
-
 abbrev line_at : After-word_size-word → List ℕ
-line_at c = (start_of c).args.line.now
+line_at c = c.args.line.now
 
 -- what is lent of the line is the line without its carriage return
 abbrev text_of : After-word_size-word → List ℕ
@@ -82,7 +79,7 @@ pub returns-then-not-found : goal.returns-then-not-found
 returns-then-not-found c =
     let call = (goal.at.returns-then-not-found c).After-find_numbers-found in
     let f = (goal.at.After-find_numbers-found call).After-word_size-word in
-    let out = (start_of f).args.numbers.now in
+    let out = f.args.numbers.now in
     let bad =
     ap is_line (sym (bare_of f))
     ∙ sym call.find_numbers-found.ensures.good_value
@@ -96,7 +93,7 @@ pub returns-then-numbers-count : goal.returns-then-numbers-count
 returns-then-numbers-count c =
     let s = (goal.at.returns-then-numbers-count c).Else-not-found in
     let line = line_at (found_of s) in
-    let out = (start_of (found_of s)).args.numbers.now in
+    let out = (found_of s).args.numbers.now in
     let short : length out < length (numbers_in (bare line)) =
     omega (arith, c.if-numbers-count.true, bare_count s) in
     record {
@@ -122,7 +119,7 @@ returns c =
     let room = (goal.at.After-take_numbers call).Else-numbers-count in
     let s = (goal.at.Else-numbers-count room).Else-not-found in
     let f = found_of s in
-    let out = (start_of f).args.numbers.now in
+    let out = f.args.numbers.now in
     let fits : length (numbers_in (bare (line_at f))) ≤ length out =
     omega (arith, room.if-numbers-count.false, bare_count s) in
     record {

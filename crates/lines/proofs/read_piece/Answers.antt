@@ -18,16 +18,13 @@ use Rattle.lines.proofs.Digits.{
 use Rattle.lines.proofs.read_piece.Goals as goal
 use Rattle.lines.proofs.read_piece.Goals.{After-add_digit-more, At-loop-i, In-loop-i, Start}
 
-abbrev start_of : At-loop-i → Start
-start_of h = (goal.at.At-loop-i h).Start
-
 pub loop-i-init : goal.loop-i-init
 loop-i-init c = read_begins c.args.line.now c.args.from c.requires
 
 pub returns-then-byte-eq32 : goal.returns-then-byte-eq32
 returns-then-byte-eq32 c =
     let head = (goal.at.returns-then-byte-eq32 c).At-loop-i in
-    let f = (start_of head).args in
+    let f = head.args in
     let line = f.line.now in
     let i = head.loop-i.i in
     let value = head.loop-i.value in
@@ -44,7 +41,7 @@ returns-then-not-more c =
     let call = (goal.at.returns-then-not-more c).After-add_digit-more in
     let inside = (goal.at.After-add_digit-more call).In-loop-i in
     let head = (goal.at.In-loop-i inside).At-loop-i in
-    let f = (start_of head).args in
+    let f = head.args in
     let bad =
     read_bad f.line.now f.from head.loop-i.i head.loop-i.value head.loop-i.invariant inside.loop-i-test.true
     call.if-byte-eq32.false
@@ -56,7 +53,7 @@ loop-i-preserved c =
     let call = (goal.at.loop-i-preserved c).After-add_digit-more in
     let inside = (goal.at.After-add_digit-more call).In-loop-i in
     let head = (goal.at.In-loop-i inside).At-loop-i in
-    let f = (start_of head).args in
+    let f = head.args in
     let good : call.add_digit-more.result.good ≡ true = not-false _ c.if-not-more.false in
     subst (ReadTo f.line.now f.from (head.loop-i.i + 1)) (sym (call.add_digit-more.ensures.value_value good))
     (read_turn f.line.now f.from head.loop-i.i head.loop-i.value head.loop-i.invariant
@@ -67,7 +64,7 @@ loop-i-preserved c =
 pub returns : goal.returns
 returns c =
     let head = (goal.at.returns c).At-loop-i in
-    let f = (start_of head).args in
+    let f = head.args in
     let line = f.line.now in
     let i = head.loop-i.i in
     let value = head.loop-i.value in

@@ -17,28 +17,25 @@ use Rattle.lines.proofs.Walk.{part, walk_begins, walk_fine, walk_skips, walk_one
 use Rattle.lines.proofs.take_numbers.Goals as goal
 use Rattle.lines.proofs.take_numbers.Goals.{After-read_piece-part, At-loop-at, In-loop-at, Start, Then-at-part}
 
-abbrev start_of : At-loop-at → Start
-start_of h = (goal.at.At-loop-at h).Start
-
 abbrev line_at : At-loop-at → List ℕ
-line_at h = (start_of h).args.line.now
+line_at h = h.args.line.now
 
 -- the numbers passed, and the slice's length
 passed_of : (h : At-loop-at) → length (take h.loop-at.count (numbers_in (line_at h))) ≡ h.loop-at.count
 passed_of h = length-take-le h.loop-at.count (numbers_in (line_at h)) h.loop-at.invariant.0.some
 
-long_of : (h : At-loop-at) → length h.loop-at.numbers ≡ length (start_of h).args.numbers.now
+long_of : (h : At-loop-at) → length h.loop-at.numbers ≡ length h.args.numbers.now
 long_of h =
     ap length h.loop-at.invariant.1
-    ∙ placed_length (start_of h).args.numbers.now 0 (take h.loop-at.count (numbers_in (line_at h)))
-    (omega (arith, passed_of h, h.loop-at.invariant.0.some, (start_of h).requires.line_in_bounds))
+    ∙ placed_length h.args.numbers.now 0 (take h.loop-at.count (numbers_in (line_at h)))
+    (omega (arith, passed_of h, h.loop-at.invariant.0.some, h.requires.line_in_bounds))
 
 -- the piece is a number or empty, so it has been read
 small_of : (c : In-loop-at) → is_small (part (line_at (goal.at.In-loop-at c).At-loop-at) c.loop-at.at) ≡ true
 small_of c =
     let h = (goal.at.In-loop-at c).At-loop-at in
     walk_fine (line_at h) h.loop-at.at h.loop-at.count h.loop-at.invariant.0 c.loop-at-test.true
-    (line_numbers (line_at h) (start_of h).requires.line_value)
+    (line_numbers (line_at h) h.requires.line_value)
 
 next_of : (c : After-read_piece-part) →
     let h = (goal.at.After-read_piece-part c).At-loop-at in
@@ -68,7 +65,7 @@ loop-at-init c =
 pub bounds-numbers-count : goal.bounds-numbers-count
 bounds-numbers-count c =
     let h = (goal.at.bounds-numbers-count c).At-loop-at in
-    omega (arith, one_of c, long_of h, (start_of h).requires.line_in_bounds)
+    omega (arith, one_of c, long_of h, h.requires.line_in_bounds)
 
 pub loop-at-smaller-then-at-part : goal.loop-at-smaller-then-at-part
 loop-at-smaller-then-at-part c = omega (arith, next_of (goal.at.loop-at-smaller-then-at-part c).After-read_piece-part)
@@ -89,13 +86,13 @@ loop-at-preserved-then-at-part c =
     let more : take (count + 1) numbers ≡ take count numbers ++ (get_or numbers count 0 ∷ []) =
     ap (λ (k : ℕ). take k numbers) (add-one count) ∙ take-suc numbers count 0 (one_of c) in (
       walk_turn (line_at h) at count h.loop-at.invariant.0 l next (next_of call) small c.if-at-part.true,
-      placed_next (start_of h).args.numbers.now h.loop-at.numbers 0 (take count numbers)
+      placed_next h.args.numbers.now h.loop-at.numbers 0 (take count numbers)
           call.read_piece-part.result.value
           count
           h.loop-at.invariant.1
           (omega (arith, passed_of h))
-          (omega (arith, one_of c, (start_of h).requires.line_in_bounds))
-          ∙ ap (placed (start_of h).args.numbers.now 0)
+          (omega (arith, one_of c, h.requires.line_in_bounds))
+          ∙ ap (placed h.args.numbers.now 0)
           (ap (λ (v : ℕ). take count numbers ++ (v ∷ [])) value ∙ sym more),
     )
 
@@ -119,5 +116,5 @@ returns c =
     let h = (goal.at.returns c).At-loop-at in
     let all = walk_all (line_at h) h.loop-at.at h.loop-at.count h.loop-at.invariant.0 c.loop-at-test.false in
     h.loop-at.invariant.1
-    ∙ ap (placed (start_of h).args.numbers.now 0)
+    ∙ ap (placed h.args.numbers.now 0)
     (take_all h.loop-at.count (numbers_in (line_at h)) (omega (arith, all)))

@@ -97,7 +97,7 @@ only_one κs a r s x y p q = (p.0 ∙ sym q.0, p.1 ∙ sym q.1)
 pub returns-then-too_short : goal.returns-then-too_short
 unfolding too_short
 returns-then-too_short c =
-    let f = (start_of (goal.at.returns-then-too_short c).After-too_short).args in
+    let f = c.args in
     let short = ltb-true _ _ (sym c.too_short.ensures ∙ c.if-too_short.true) in
     record {
       value = line_refused f.word.now f.numbers.now (length f.out.now) short;

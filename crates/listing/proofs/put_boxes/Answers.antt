@@ -17,7 +17,7 @@ abbrev start_of : In-loop-i → Start
 start_of c = (goal.at.In-loop-i c).Start
 
 few : (c : In-loop-i) → c.loop-i.i < 13
-few c = omega (arith, c.loop-i-test.true, (start_of c).requires.0)
+few c = omega (arith, c.loop-i-test.true, c.requires.0)
 
 pub loop-i-init : goal.loop-i-init
 unfolding box_lines

@@ -31,16 +31,12 @@ use Rattle.listing.proofs.Iterations.{
 use Rattle.listing.proofs.tell_iterations.Goals as goal
 use Rattle.listing.proofs.tell_iterations.Goals.{After-advance-next, After-loop-s, At-loop-s, Else-next-ne0, Start}
 
--- the start of the function, where the loop's test is reached
-abbrev start_of : At-loop-s → Start
-start_of c = (goal.at.At-loop-s c).Start
-
 -- the turn, where the next table was met
 abbrev turn_of : After-advance-next → At-loop-s
 turn_of c = (goal.at.After-advance-next c).At-loop-s
 
 abbrev bytes_of : At-loop-s → List ℕ
-bytes_of c = (start_of c).args.bytes.now
+bytes_of c = c.args.bytes.now
 
 due_of : (c : After-advance-next) → (turn_of c).loop-s.s.done ≤ (turn_of c).loop-s.s.t
 due_of c = omega (arith, c.loop-s-test.true)
@@ -72,7 +68,7 @@ pub advance-next-requires : goal.advance-next-requires
 advance-next-requires c =
     let t = (goal.at.advance-next-requires c).At-loop-s in (
       underway _ _ t.loop-s.invariant.0 (omega (arith, c.loop-s-test.true)),
-      t.loop-s.invariant.1 ∙ (start_of t).requires.1,
+      t.loop-s.invariant.1 ∙ t.requires.1,
     )
 
 pub returns-then-next-ne0 : goal.returns-then-next-ne0
@@ -82,7 +78,7 @@ returns-then-next-ne0 c =
     let g = t.loop-s.invariant.0 in
     let refused = next_refused _ _ g _ a.advance-next.ensures in
     let h = c.if-next-ne0.true in
-    let b = (start_of t).args in (
+    let b = t.args in (
       record {
         outcome = c.ended.ensures ∙ stopped_outcome _ _ g (due_of a) _ refused h;
         text =
@@ -105,7 +101,7 @@ put_boxes-size-requires c =
         due_of (advance_of e),
         going_few _ _
             t.loop-s.invariant.0,
-        (start_of t).requires.2,
+        t.requires.2,
       ),
     )
 
@@ -121,9 +117,9 @@ loop-s-preserved c =
     let t = turn_of a in
     let g = t.loop-s.invariant.0 in
     let put = c.put_boxes-size.ensures in
-    let b = (start_of t).args in
+    let b = t.args in
     let room : c.put_boxes-size.result ≤ length b.text.now =
-    omega (arith, t.loop-s.invariant.4, put.1, due_of a, going_few _ _ g, (start_of t).requires.2) in
+    omega (arith, t.loop-s.invariant.4, put.1, due_of a, going_few _ _ g, t.requires.2) in
     let run = a.advance-next.result.run in
     let new = subst (Put _ _ _ _) (lines_by run run.n) put.0 in
     let text = put_then t.loop-s.invariant.3 new room in
@@ -150,7 +146,7 @@ returns c =
     let t = (goal.at.After-loop-s e).At-loop-s in
     let g = t.loop-s.invariant.0 in
     let past : t.loop-s.s.t < t.loop-s.s.done = omega (arith, e.loop-s-test.false) in
-    let b = (start_of t).args in
+    let b = t.args in
     let refusal = ap (λ (k : ℕ). ended_by k t.loop-s.s) c.end_refusal.ensures in (
       record {
         outcome = c.ended-2.ensures ∙ refusal ∙ finished_outcome _ _ g past;

@@ -18,7 +18,7 @@ abbrev start_of : Else-first-ne0 → Start
 start_of c = (goal.at.Else-first-ne0 c).Start
 
 abbrev bytes_of : Else-first-ne0 → List ℕ
-bytes_of c = (start_of c).args.bytes.now
+bytes_of c = c.args.bytes.now
 
 ok : (c : Else-first-ne0) → refused_start (bytes_of c) ≡ 0
 ok c = sym c.begin-first.ensures.number ∙ c.if-first-ne0.false

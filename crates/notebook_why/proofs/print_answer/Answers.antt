@@ -12,13 +12,10 @@ use Rattle.why.proofs.Room.{answer_whole}
 use Rattle.notebook_why.proofs.print_answer.Goals as goal
 use Rattle.notebook_why.proofs.print_answer.Goals.{After-answer-size, Start}
 
-abbrev start_of : After-answer-size → Start
-start_of p = (goal.at.After-answer-size p).Start
-
 -- what was written is part of the text
 written : (p : After-answer-size) → p.answer-size.result.size ≤ length p.answer-size.new.out
 written p =
-    let a = (start_of p).args in
+    let a = p.args in
     omega (
       arith,
       ap (λ (r : Answered). r.size) p.answer-size.ensures.value,
@@ -28,9 +25,9 @@ written p =
 
 -- all of it was written
 whole : (p : After-answer-size) →
-    let a = (start_of p).args in p.answer-size.result.size ≡ length (answer_of a.file.now a.asked a.listed)
+    let a = p.args in p.answer-size.result.size ≡ length (answer_of a.file.now a.asked a.listed)
 whole p =
-    let a = (start_of p).args in
+    let a = p.args in
     ap (λ (r : Answered). r.size) p.answer-size.ensures.value
     ∙ answer_whole a.file.now a.asked a.listed 64 (omega arith)
 

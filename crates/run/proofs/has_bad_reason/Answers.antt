@@ -26,11 +26,8 @@ use Rattle.run.proofs.has_bad_reason.Goals.{
 }
 
 -- a turn
-abbrev start_of : In-loop-i → Start
-start_of c = (goal.at.In-loop-i c).Start
-
 few : (c : In-loop-i) → c.loop-i.i < 13
-few c = omega (arith, c.loop-i-test.true, (start_of c).requires.0)
+few c = omega (arith, c.loop-i-test.true, c.requires.0)
 
 -- from where the reasons are lent
 abbrev lent_of : After-look_at-arg-in-loop-i-5-1 → In-loop-i
@@ -43,7 +40,7 @@ turn_of c = lent_of (goal.at.After-look_at-looked c).After-look_at-arg-in-loop-i
 -- how many are on the list of box i
 listed_of : (c : Else-looked) →
     let turn = turn_of (goal.at.Else-looked c).After-look_at-looked in
-    c.look_at-looked.result.listed ≡ count 13 (member (get_or (start_of turn).args.s.lists turn.loop-i.i 0))
+    c.look_at-looked.result.listed ≡ count 13 (member (get_or turn.args.s.lists turn.loop-i.i 0))
 listed_of c = c.look_at-looked.ensures.listed_value c.if-looked.false
 
 pub loop-i-init : goal.loop-i-init
@@ -53,7 +50,7 @@ loop-i-init c = (search_begins _, refl)
 pub look_at-looked-requires : goal.look_at-looked-requires
 look_at-looked-requires c =
     let turn = lent_of c in
-    let p = (start_of turn).requires in
+    let p = turn.requires in
     record {
       n_bound = (p.0, few turn, list_within _ p.0 p.1 _ (few turn));
       iterations_len = (search rules, search rules, search rules);
@@ -63,13 +60,13 @@ pub returns-then-looked : goal.returns-then-looked
 unfolding reason_at reason_in
 returns-then-looked c =
     let turn = turn_of (goal.at.returns-then-looked c).After-look_at-looked in
-    let p = (start_of turn).requires in
+    let p = turn.requires in
     some_bad _ p.0 p.1 turn.loop-i.i (few turn) (sym c.look_at-looked.ensures.bad_value ∙ c.if-looked.true)
 
 pub overflow_add-listed : goal.overflow_add-listed
 overflow_add-listed c =
     let turn = turn_of (goal.at.overflow_add-listed c).After-look_at-looked in
-    let lists = (start_of turn).args.s.lists in
+    let lists = turn.args.s.lists in
     omega (
       arith,
       turn.loop-i.invariant.1,
@@ -85,7 +82,7 @@ loop-i-preserved c =
     let looked = (goal.at.loop-i-preserved c).After-look_at-looked in
     let turn = turn_of looked in
     let inv = turn.loop-i.invariant in
-    let p = (start_of turn).requires in (
+    let p = turn.requires in (
       search_turn _ inv.0 turn.loop-i-test.true looked.look_at-looked.ensures.bad_value c.if-looked.false,
       listed_more _ p.0 p.1 turn.loop-i.i inv.1 (listed_of (goal.at.loop-i-preserved c).Else-looked),
     )

@@ -25,7 +25,7 @@ end_of c = start_of (goal.at.After-loop-i c).After-struct_known-1
 
 pub loop-i-init : goal.loop-i-init
 loop-i-init c =
-    let long = (start_of c).requires.iterations_len in
+    let long = c.requires.iterations_len in
     (search rules, boxes_begin _ _ long.0, boxes_begin _ _ long.1, boxes_begin _ _ long.2)
 
 pub keep_box-requires : goal.keep_box-requires

@@ -30,7 +30,7 @@ joined c = c.bit_if-list.ensures ∙ ap (λ (m : ℕ). cond c.joins.result m 0) 
 
 -- no bit above the thirteenth is reached
 low : (c : After-bit_if-list) → 2 ^ ((turn_of c).loop-k.k + 1) ≤ 8192
-low c = bits_le _ (omega (arith, (start_of (turn_of c)).requires.1, (turn_of c).loop-k-test.true))
+low c = bits_le _ (omega (arith, (turn_of c).requires.1, (turn_of c).loop-k-test.true))
 
 pub overflow_mul-from : goal.overflow_mul-from
 overflow_mul-from c = omega (arith, fits (goal.at.overflow_mul-from c).Start)
@@ -47,7 +47,7 @@ bounds-confidences-from c =
     let s = start_of (goal.at.bounds-confidences-from c).In-loop-k in omega (arith, fits s, s.requires.0)
 
 pub joins-requires : goal.joins-requires
-joins-requires c = omega (arith, (start_of (goal.at.joins-requires c).In-loop-k).requires.1)
+joins-requires c = omega (arith, c.requires.1)
 
 pub overflow_add-list : goal.overflow_add-list
 overflow_add-list c =

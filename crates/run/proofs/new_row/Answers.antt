@@ -17,16 +17,13 @@ fits : (s : Start) → s.args.i * s.args.n + s.args.n ≤ 169
 fits s = part_fits s.requires.0.high s.requires.1
 
 -- what was chosen, over box i's parts
-abbrev start_of : After-choose-chosen → Start
-start_of c = (goal.at.After-choose-chosen c).Start
-
 chosen : (c : After-choose-chosen) →
-    let a = (start_of c).args in
+    let a = c.args in
     let from = a.i * a.n in
     c.choose-chosen.result.row
     ≡ (choice_reply (take a.n (drop from a.rows.now)) (take a.n (drop from a.confidences.now))).row
 chosen c =
-    let a = (start_of c).args in
+    let a = c.args in
     let from = a.i * a.n in
     let size : from + a.n - from ≡ a.n = omega arith in
     ap (λ (r : Chosen). r.row) c.choose-chosen.ensures

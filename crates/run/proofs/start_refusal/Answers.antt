@@ -12,10 +12,7 @@ use Rattle.run.proofs.start_refusal.Goals as goal
 use Rattle.run.proofs.start_refusal.Goals.{Else-refusal-ne0, Else-rows-n, Start}
 
 -- where 4, 5 and 6 are passed
-abbrev start_of : Else-refusal-ne0 → Start
-start_of c = (goal.at.Else-refusal-ne0 c).Start
-
-passes : (c : Else-refusal-ne0) → setting_refusal (start_of c).args.n (start_of c).args.t (start_of c).args.faulty ≡ 0
+passes : (c : Else-refusal-ne0) → setting_refusal c.args.n c.args.t c.args.faulty ≡ 0
 passes c = sym c.setting_refusal-refusal.ensures ∙ c.if-refusal-ne0.false
 
 pub returns-then-refusal-ne0 : goal.returns-then-refusal-ne0

@@ -9,11 +9,8 @@ use Rattle.run.proofs.step5_lists.Goals as goal
 use Rattle.run.proofs.step5_lists.Goals.{In-loop-i, Start}
 
 -- a turn, and the place that it fills
-abbrev start_of : In-loop-i → Start
-start_of c = (goal.at.In-loop-i c).Start
-
 few : (c : In-loop-i) → c.loop-i.i < 13
-few c = omega (arith, c.loop-i-test.true, (start_of c).requires.1)
+few c = omega (arith, c.loop-i-test.true, c.requires.1)
 
 pub loop-i-init : goal.loop-i-init
 loop-i-init c = fill_begins _ (replicate 13 0)
@@ -27,7 +24,7 @@ bounds-out-i c = few (goal.at.bounds-out-i c).In-loop-i
 pub loop-i-preserved : goal.loop-i-preserved
 loop-i-preserved c =
     let turn = (goal.at.loop-i-preserved c).In-loop-i in
-    fill_turn _ (replicate 13 0) (start_of turn).requires.1 turn.loop-i.invariant turn.loop-i-test.true
+    fill_turn _ (replicate 13 0) turn.requires.1 turn.loop-i.invariant turn.loop-i-test.true
     c.list_at.ensures
 
 pub returns : goal.returns

@@ -24,7 +24,7 @@ abbrev start_of : Else-numbers-eq1 → Start
 start_of c = (goal.at.Else-numbers-eq1 c).Start
 
 -- with the leader it is below 2,197
-triple_of : (c : Else-numbers-eq1) → triple (start_of c).args.n (start_of c).args.numbers.now < 2197
+triple_of : (c : Else-numbers-eq1) → triple c.args.n c.args.numbers.now < 2197
 triple_of c =
     let s = start_of c in
     omega (

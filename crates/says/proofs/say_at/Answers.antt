@@ -26,7 +26,7 @@ place_of c =
 
 begins_of : (c : After-table_begins) → c.table_begins.result ≤ 182633
 begins_of c =
-    let p = (start_of (goal.at.After-table_begins c).After-place_said-place).requires in
+    let p = c.requires in
     begins_most _ _ _ c.table_begins.ensures p.0 p.1 (omega (arith, p.2, p.3.iteration.high))
 
 pub overflow_mul-result : goal.overflow_mul-result
@@ -38,7 +38,7 @@ overflow_add-result c = omega (arith, place_of (goal.at.overflow_add-result c).A
 pub returns : goal.returns
 unfolding say_at
 returns c =
-    let p = (start_of (goal.at.returns c).After-place_said-place).requires in
+    let p = c.requires in
     ap₂ (λ (begins place : ℕ). begins + 8 * place)
     (begins_inside _ _ _ c.table_begins.ensures p.0 p.1)
     c.place_said-place.ensures

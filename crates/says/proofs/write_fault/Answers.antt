@@ -21,9 +21,6 @@ use Rattle.says.proofs.Faults.{
 use Rattle.says.proofs.write_fault.Goals as goal
 use Rattle.says.proofs.write_fault.Goals.{After-copy, After-write_line-end, Else-out-size, Start}
 
-abbrev start_of : After-write_line-end → Start
-start_of c = (goal.at.After-write_line-end c).Start
-
 -- `line` and the number, as they are put together apart, and how many bytes they have
 abbrev end_of : After-write_line-end → ℕ
 end_of c = c.write_line-end.result.size - 1
@@ -32,30 +29,30 @@ abbrev apart_of : After-write_line-end → List ℕ
 apart_of c = take (end_of c) c.write_line-end.new.out
 
 abbrev front_of : After-write_line-end → List ℕ
-front_of c = line_start (start_of c).args.line
+front_of c = line_start c.args.line
 
 size_of : (c : After-write_line-end) → c.write_line-end.result.size ≡ length (front_of c) + 1
-size_of c = front_size (start_of c).args.line (start_of c).ranges.line.fits _ c.write_line-end.ensures.value
+size_of c = front_size c.args.line c.ranges.line.fits _ c.write_line-end.ensures.value
 
 short_of : (c : After-write_line-end) → length (front_of c) ≤ 25
-short_of c = front_short (start_of c).args.line (start_of c).ranges.line.fits
+short_of c = front_short c.args.line c.ranges.line.fits
 
 text_of : (c : After-write_line-end) → apart_of c ≡ front_of c
 text_of c =
     let end : end_of c ≡ length (front_of c) = omega (arith, size_of c) in
     ap (λ (k : ℕ). take k c.write_line-end.new.out) end
-    ∙ front_text (start_of c).args.line (start_of c).ranges.line.fits _ _ refl c.write_line-end.ensures.out_after
+    ∙ front_text c.args.line c.ranges.line.fits _ _ refl c.write_line-end.ensures.out_after
 
 long_of : (c : After-write_line-end) → end_of c ≡ length (apart_of c)
 long_of c = omega (arith, size_of c, ap length (text_of c))
 
 -- the whole line
 abbrev line_of : After-write_line-end → List ℕ
-line_of c = fault_line (start_of c).args.line (start_of c).args.said.now
+line_of c = fault_line c.args.line c.args.said.now
 
-whole_of : (c : After-write_line-end) → end_of c + length (start_of c).args.said.now ≡ length (line_of c)
+whole_of : (c : After-write_line-end) → end_of c + length c.args.said.now ≡ length (line_of c)
 unfolding fault_line
-whole_of c = omega (arith, size_of c, length-append (front_of c) (start_of c).args.said.now)
+whole_of c = omega (arith, size_of c, length-append (front_of c) c.args.said.now)
 
 pub overflow_sub-end : goal.overflow_sub-end
 overflow_sub-end c = omega (arith, size_of (goal.at.overflow_sub-end c).After-write_line-end)
@@ -63,12 +60,12 @@ overflow_sub-end c = omega (arith, size_of (goal.at.overflow_sub-end c).After-wr
 pub overflow_add-size : goal.overflow_add-size
 overflow_add-size c =
     let w = (goal.at.overflow_add-size c).After-write_line-end in
-    omega (arith, size_of w, short_of w, (start_of w).requires)
+    omega (arith, size_of w, short_of w, w.requires)
 
 pub returns-then-out-size : goal.returns-then-out-size
 returns-then-out-size c =
     let w = (goal.at.returns-then-out-size c).After-write_line-end in
-    let short : length (start_of w).args.out.now < length (line_of w) =
+    let short : length w.args.out.now < length (line_of w) =
     omega (arith, whole_of w, c.if-out-size.true) in
     record { value = text_refused (line_of w) _ short; out_after = text_leaves (line_of w) _ short }
 
@@ -93,7 +90,7 @@ returns c =
     let copied = (goal.at.returns c).After-copy in
     let else = (goal.at.After-copy copied).Else-out-size in
     let w = (goal.at.Else-out-size else).After-write_line-end in
-    let s = (start_of w).args in
+    let s = w.args in
     let one = copied.copy.new.out in
     let front : length (apart_of w) ≤ length s.out.now =
     omega (arith, long_of w, whole_of w, else.if-out-size.false) in

@@ -11,14 +11,11 @@ use Rattle.says.proofs.write_say.Reads as Reads
 use Rattle.says.proofs.write_say.Goals as goal
 use Rattle.says.proofs.write_say.Goals.{Else-n-gt13, Start}
 
-abbrev start_of : Else-n-gt13 → Start
-start_of c = (goal.at.Else-n-gt13 c).Start
-
 -- n is 1 to 13
-low_of : (c : Else-n-gt13) → 1 ≤ (start_of c).args.n
+low_of : (c : Else-n-gt13) → 1 ≤ c.args.n
 low_of c = c.if-n-lt1.false
 
-high_of : (c : Else-n-gt13) → (start_of c).args.n ≤ 13
+high_of : (c : Else-n-gt13) → c.args.n ≤ 13
 high_of c = c.if-n-gt13.false
 
 -- the contract admits one reply, and one last contents of the slice
@@ -39,12 +36,12 @@ overflow_mul-square c = omega (arith, square_le (high_of c))
 
 pub overflow_add-sender : goal.overflow_add-sender
 overflow_add-sender c =
-    let a = (start_of (goal.at.overflow_add-sender c).Else-n-gt13).args in
+    let a = c.args in
     omega (arith, div-le_self a.place a.n)
 
 pub overflow_add-receiver : goal.overflow_add-receiver
 overflow_add-receiver c =
-    let a = (start_of (goal.at.overflow_add-receiver c).Else-n-gt13).args in
+    let a = c.args in
     omega (arith, mod-le a.place a.n)
 
 pub returns-then-p-square : goal.returns-then-p-square
@@ -64,7 +61,7 @@ nonzero_div-step c =
 
 pub overflow_add-step : goal.overflow_add-step
 overflow_add-step c =
-    let a = (start_of (goal.at.overflow_add-step c).Else-n-gt13).args in
+    let a = c.args in
     omega (arith, div-le_self (a.place - a.n * a.n) (a.n * a.n * a.n))
 
 pub nonzero_div-sender-2 : goal.nonzero_div-sender-2
@@ -74,19 +71,19 @@ nonzero_div-sender-2 c =
 
 pub overflow_add-sender-2 : goal.overflow_add-sender-2
 overflow_add-sender-2 c =
-    let a = (start_of (goal.at.overflow_add-sender-2 c).Else-n-gt13).args in
+    let a = c.args in
     let q = a.place - a.n * a.n in
     omega (arith, mod-le (q / (a.n * a.n)) a.n, div-le_self q (a.n * a.n))
 
 pub overflow_add-receiver-2 : goal.overflow_add-receiver-2
 overflow_add-receiver-2 c =
-    let a = (start_of (goal.at.overflow_add-receiver-2 c).Else-n-gt13).args in
+    let a = c.args in
     let q = a.place - a.n * a.n in
     omega (arith, mod-le (q / a.n) a.n, div-le_self q a.n)
 
 pub overflow_add-leader : goal.overflow_add-leader
 overflow_add-leader c =
-    let a = (start_of (goal.at.overflow_add-leader c).Else-n-gt13).args in
+    let a = c.args in
     omega (arith, mod-le (a.place - a.n * a.n) a.n)
 
 pub returns : goal.returns

@@ -55,10 +55,10 @@ rows_few s =
 abbrev start_of : Else-h-part → Start
 start_of c = (goal.at.Else-h-part c).Start
 
-part_of : (c : Else-h-part) → (start_of c).args.part ≡ 0 → ⊥
+part_of : (c : Else-h-part) → c.args.part ≡ 0 → ⊥
 part_of c = c.if-part-eq0.false
 
-upto : (c : Else-h-part) → (start_of c).args.part ≤ due (bytes_of (start_of c))
+upto : (c : Else-h-part) → c.args.part ≤ due (bytes_of (start_of c))
 upto c = omega (arith, due_of (start_of c), c.if-h-part.false)
 
 pub put_heading-requires : goal.put_heading-requires

@@ -23,14 +23,11 @@ use Rattle.tally.proofs.choose.Goals as goal
 use Rattle.tally.proofs.choose.Goals.{After-lead_of-lead, Else-refusal-ne0, Start}
 
 -- where the call is not refused
-abbrev start_of : Else-refusal-ne0 → Start
-start_of c = (goal.at.Else-refusal-ne0 c).Start
-
 abbrev rows_at : Else-refusal-ne0 → List ℕ
-rows_at c = (start_of c).args.rows.now
+rows_at c = c.args.rows.now
 
 abbrev confidences_of : Else-refusal-ne0 → List ℕ
-confidences_of c = (start_of c).args.confidences.now
+confidences_of c = c.args.confidences.now
 
 taken : (c : Else-refusal-ne0) → choice_refusal (rows_at c) (confidences_of c) ≡ 0
 taken c = sym c.choice_refusal-refusal.ensures ∙ c.if-refusal-ne0.false

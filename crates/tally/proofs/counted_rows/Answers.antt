@@ -10,11 +10,8 @@ use Rattle.tally.proofs.counted_rows.Goals as goal
 use Rattle.tally.proofs.counted_rows.Goals.{After-counted_row, At-loop-i, Start}
 
 -- at a turn: 13 places are enough, and so many there are
-abbrev start_of : After-counted_row → Start
-start_of c = (goal.at.After-counted_row c).Start
-
-enough : (c : After-counted_row) → length (start_of c).args.rows.now ≤ 13
-enough c = (start_of c).requires.0
+enough : (c : After-counted_row) → length c.args.rows.now ≤ 13
+enough c = c.requires.0
 
 abbrev turn_of : After-counted_row → At-loop-i
 turn_of c = (goal.at.After-counted_row c).At-loop-i

@@ -13,18 +13,15 @@ use Rattle.tally.proofs.grade.Goals as goal
 use Rattle.tally.proofs.grade.Goals.{After-confidence_at-confidence, After-lead_of-lead, Start}
 
 -- where the lead is found: the call is not refused, and the lead's support is that of the grade
-abbrev start_of : After-lead_of-lead → Start
-start_of c = (goal.at.After-lead_of-lead c).Start
-
-taken : (c : After-lead_of-lead) → size_refusal (length (start_of c).args.rows.now) (start_of c).args.t ≡ 0
+taken : (c : After-lead_of-lead) → size_refusal (length c.args.rows.now) c.args.t ≡ 0
 taken c = sym c.size_refusal-refusal.ensures ∙ c.if-refusal-ne0.false
 
-supported : (c : After-lead_of-lead) → c.lead_of-lead.result.support ≡ support_of (start_of c).args.rows.now
-supported c = lead_support _ (start_of c).args.t _ c.lead_of-lead.ensures
+supported : (c : After-lead_of-lead) → c.lead_of-lead.result.support ≡ support_of c.args.rows.now
+supported c = lead_support _ c.args.t _ c.lead_of-lead.ensures
 
 -- the confidence is that of the grade
 is : (c : After-confidence_at-confidence) →
-    let a = (start_of (goal.at.After-confidence_at-confidence c).After-lead_of-lead).args in
+    let a = c.args in
     c.confidence_at-confidence.result ≡ confidence_of a.t a.rows.now
 is c = lead_confidence _ _ _ _ c.lead_of-lead.ensures c.confidence_at-confidence.ensures
 
@@ -38,7 +35,7 @@ returns-then-refusal-ne0 c = grade_refused _ _ _ c.size_refusal-refusal.ensures 
 -- it is at most 13
 pub overflow_cast-support : goal.overflow_cast-support
 overflow_cast-support c =
-    let rows = (start_of (goal.at.overflow_cast-support c).After-lead_of-lead).args.rows.now in
+    let rows = c.args.rows.now in
     let sized = passes_sized (length rows) _ (taken (goal.at.overflow_cast-support c).After-lead_of-lead) in
     omega (arith, supported (goal.at.overflow_cast-support c).After-lead_of-lead, support_le rows, sized.high)
 

@@ -13,13 +13,10 @@ use Rattle.tally.proofs.vote.Goals as goal
 use Rattle.tally.proofs.vote.Goals.{Else-refusal-ne0, Start}
 
 -- where the call is not refused by 4 or 5
-abbrev start_of : Else-refusal-ne0 → Start
-start_of c = (goal.at.Else-refusal-ne0 c).Start
-
-passes : (c : Else-refusal-ne0) → size_refusal (length (start_of c).args.rows.now) (start_of c).args.t ≡ 0
+passes : (c : Else-refusal-ne0) → size_refusal (length c.args.rows.now) c.args.t ≡ 0
 passes c = sym c.size_refusal-refusal.ensures ∙ c.if-refusal-ne0.false
 
-few : (c : Else-refusal-ne0) → 3 * (start_of c).args.t < length (start_of c).args.rows.now
+few : (c : Else-refusal-ne0) → 3 * c.args.t < length c.args.rows.now
 few c = (passes_sized _ _ (passes c)).tolerated
 
 -- the contract admits one reply
