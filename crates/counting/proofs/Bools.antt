@@ -1,6 +1,7 @@
 -- Truth values: what a test that came out says of its parts, and the pick of a test.
 -- Assumes nothing.
 use mathlib.Core.Path.{◌≡◌, refl, sym, ◌∙◌}
+use mir.Val.{bool_byte}
 use mathlib.Core.Bool.{Bool, true, false, cond, not, ◌&&◌, ◌||◌, true≢false, false≢true}
 use mathlib.Core.Logic.{◌⊎◌}
 use mathlib.Core.Logic.◌⊎◌.{inl, inr}
@@ -81,3 +82,8 @@ pub same : (a b : Bool) → (a ≡ true → b ≡ true) → (b ≡ true → a �
 same true b f g = sym (f refl)
 same false true f g = g refl
 same false false f g = refl
+
+-- a test as a number: yes is 1, no is 0
+pub bool_number : (b : Bool) → bool_byte b ≡ cond b 1 0
+bool_number true = refl
+bool_number false = refl

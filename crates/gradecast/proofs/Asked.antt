@@ -4,7 +4,7 @@
 -- and the faulty ones that say the same, which were counted while they were heard. Where a sound leader's row is 0
 -- this does not hold: a faulty box may name a row for it, and that has support. So such a leader is counted.
 -- Assumes nothing.
-use mathlib.Core.Path.{◌≡◌, refl, sym, ap, ap₂, ◌∙◌}
+use mathlib.Core.Path.{◌≡◌, refl, sym, ap, ap₂, ◌∙◌, subst}
 use mathlib.Core.Bool.{Bool, true, false, ◌&&◌}
 use mathlib.Core.List.{List}
 use mathlib.Core.Logic.{⊎_elim}
@@ -20,14 +20,14 @@ use Rattle.counting.proofs.Count.{count_ext}
 use Rattle.counting.proofs.Sets.{member_set_of}
 use Rattle.tally.specs.Tally.{vote_of, support_of, graded_row}
 use Rattle.gradecast.specs.declared.Settings.{Settings}
-use Rattle.gradecast.specs.declared.Seat.{Seat}
+use Rattle.gradecast.specs.declared.hall.Seat.{Seat}
 use Rattle.gradecast.specs.Steps.{heard3}
 use Rattle.gradecast.specs.Cast.{of_sound, cells}
 use Rattle.gradecast.specs.Fair.{SoundBox, faulty_boxes}
-use Rattle.gradecast.specs.Inside.{RightSize, said_by, column_of, Calm, Trusted, AskedFor, Seated}
-use Rattle.gradecast.specs.Inside.{PutTo, on_leader, must_count, said_here, vote_by, row_by, support_by}
-use Rattle.gradecast.specs.Inside.{AllSecond, third_from, AllThird, echoes_to, echoes_of, SaidSecond, SaidThird}
-use Rattle.gradecast.specs.Inside.{votes_of_sound, rows_of_sound, supports_of_sound}
+use Rattle.gradecast.specs.Inside.{RightSize, heard_from, AllHeard, said_by, column_of, Calm, Trusted, AskedFor}
+use Rattle.gradecast.specs.Inside.{PutTo, on_leader, echoes_to}
+use Rattle.gradecast.specs.Seats.{must_count, votes, rows_found, supports_found, InStep2, InStep3}
+use Rattle.gradecast.specs.Seats.{heard_by, AllHeardBy, said_here, Echoed, vote_by, row_by, support_by}
 use Rattle.gradecast.proofs.Boxes.{sound_not_faulty, not_faulty_sound}
 use Rattle.gradecast.proofs.Cells.{cells_at, put_skipped, put_same}
 use Rattle.gradecast.proofs.Columns.{votes_heard, rows_heard, supports_heard, third_heard}
@@ -92,21 +92,21 @@ module _
     on_leader_lem a b = ⊎_elim (λ h. on_counted h ∙ a) (λ h. on_other h ∙ b h) (either to-count)
 
 -- what the box in this seat puts to its cells: nothing where it is faulty, and where it is sound what it makes
-module _ {seat : Seat} {lists table : List ℕ} (p : Seated seat lists table) where
+module _ (seat : Seat) where
   pub seat_faulty : {first : List ℕ} → member seat.hall.settings.faulty seat.i ≡ true → (f : ℕ → ℕ → ℕ) →
       PutTo seat.hall.settings.n seat.i seat.hall.settings.n
       (of_sound seat.hall.settings.faulty f seat.i) first first
-  seat_faulty h f = put_skipped p.prepared.size.high p.below _ (λ k l. of_faulty _ f _ k h)
+  seat_faulty h f = put_skipped seat.hall.size.high seat.below _ (λ k l. of_faulty _ f _ k h)
 
   pub seat_sound : {first last : List ℕ} (f g : ℕ → ℕ) → ((k : ℕ) → k < seat.hall.settings.n → f k ≡ g k) →
       PutTo seat.hall.settings.n seat.i seat.hall.settings.n f first last →
       PutTo seat.hall.settings.n seat.i seat.hall.settings.n g first last
-  seat_sound f g same put = put_same p.prepared.size.high p.below g f same put
+  seat_sound f g same put = put_same seat.hall.size.high seat.below g f same put
 
 -- what a sound box has of each leader
 module _
-    (seat : Seat) (lists table said heard : List ℕ) (p : Seated seat lists table) (size : length heard ≡ 169)
-    (is_sound : member seat.hall.settings.faulty seat.i ≡ false) (rows : List ℕ)
+    (seat : Seat) (heard : List ℕ) (size : length heard ≡ 169)
+    (is_sound : member seat.hall.settings.faulty seat.i ≡ false)
   where
     abbrev s : Settings
     s = seat.hall.settings
@@ -117,14 +117,33 @@ module _
     abbrev n : ℕ
     n = s.n
 
+    abbrev rows : List ℕ
+    rows = seat.hall.rows.now
+
+    abbrev lists : List ℕ
+    lists = seat.hall.lists.now
+
+    abbrev table : List ℕ
+    table = seat.hall.table.now
+
+    abbrev said : List ℕ
+    said = seat.said.now
+
     this_box : SoundBox n s.faulty i
-    this_box = record { below = p.below; is_sound = not_faulty_sound s.faulty i is_sound }
+    this_box = record { below = seat.below; is_sound = not_faulty_sound s.faulty i is_sound }
+
+    -- it hears by its own list, in the step whose rows begin there
+    by_list : (base : ℕ) → seat.base ≡ base → AllHeardBy seat heard →
+        AllHeard base s (get_or lists i 0) table said i heard
+    by_list base begins h =
+        subst (λ (at : ℕ). AllHeard at s (get_or lists i 0) table said i heard) begins
+        (subst (λ (list : ℕ). AllHeard seat.base s list table said i heard) seat.its_own h)
 
     -- what it said stands in its own cell
     own_cell : (f : ℕ → ℕ → ℕ) → said ≡ cells n (of_sound s.faulty f) → (k : ℕ) → k < n → said_by n said k i ≡ f i k
     own_cell f e k l =
         ap (λ (xs : List ℕ). get_or xs (i * n + k) 0) e
-        ∙ cells_at n (of_sound s.faulty f) i k p.below l
+        ∙ cells_at n (of_sound s.faulty f) i k seat.below l
         ∙ of_sound_lem s.faulty f i k is_sound
 
     -- the number f i k, where it is what the box counts, and what it has with no counting of a leader that is not
@@ -136,23 +155,22 @@ module _
         on_leader_lem to-count s counted plain heard k by_count with_none ∙ sym (of_sound_lem s.faulty f i k is_sound)
 
     module _
-        (h : AllSecond seat lists table said heard)
-        (e : SaidSecond s lists table said rows) (k : ℕ) (l : k < n)
+        (h : AllHeardBy seat heard) (in_step : InStep2 seat) (k : ℕ) (l : k < n)
       where
         -- its vote
-        pub votes_made : vote_by seat said heard k ≡ votes_of_sound s rows lists table i k
+        pub votes_made : vote_by seat heard k ≡ votes seat.hall i k
         votes_made =
-            made _ vote_of _ _ k (votes_heard s _ _ _ _ _ p.prepared.size.high size rows h e k l)
+            made _ vote_of _ _ k
+            (votes_heard s _ _ _ _ _ seat.hall.size.high size rows (by_list _ in_step.begins h) in_step.second k l)
             (λ out.
-            let trust = p.prepared.enough k l out in
-            let calm = calm_of p.prepared.size trust in
-            own_cell _ e k l
+            let trust = seat.hall.enough k l out in
+            let calm = calm_of seat.hall.size trust in
+            own_cell _ in_step.second k l
             ∙ heard1_is calm rows table i k this_box trust.leader
             ∙ sym (sound_voted calm rows table i k this_box trust.leader))
 
     module _
-        (h : AllThird seat lists table said heard)
-        (e : SaidThird s lists table said rows) (k : ℕ) (l : k < n)
+        (h : AllHeardBy seat heard) (in_step : InStep3 seat) (k : ℕ) (l : k < n)
       where
         -- what it said about k itself
         abbrev own : ℕ
@@ -160,53 +178,54 @@ module _
 
         -- where k need not be counted
         trusted : must_count seat.hall own k ≡ false → Trusted s lists k
-        trusted out = p.prepared.enough k l (or_false_right (eqb own 0) (member seat.hall.asked k) out)
+        trusted out = seat.hall.enough k l (or_false_right (eqb own 0) (member seat.hall.asked k) out)
 
         -- all is calm then
         calm : must_count seat.hall own k ≡ false → Calm n s.t s.faulty lists
-        calm out = calm_of p.prepared.size (trusted out)
+        calm out = calm_of seat.hall.size (trusted out)
 
         -- what it said is the leader's row, and not 0
         said_row : (out : must_count seat.hall own k ≡ false) → own ≡ get_or rows k 0
-        said_row out = own_cell _ e k l ∙ sound_voted (calm out) rows table i k this_box (trusted out).leader
+        said_row out =
+            own_cell _ in_step.third k l ∙ sound_voted (calm out) rows table i k this_box (trusted out).leader
 
         not_zero : must_count seat.hall own k ≡ false → get_or rows k 0 ≡ 0 → ⊥
         not_zero out z =
             eqb-false own 0 (or_false_left (eqb own 0) (member seat.hall.asked k) out) (said_row out ∙ z)
 
         -- its grade: the row
-        pub rows_made : row_by seat said heard k ≡ rows_of_sound s rows lists table i k
+        pub rows_made : row_by seat heard k ≡ rows_found seat.hall i k
         rows_made =
-            made _ graded_row _ _ k (rows_heard s _ _ _ _ _ p.prepared.size.high size rows h e k l)
+            made _ graded_row _ _ k
+            (rows_heard s _ _ _ _ _ seat.hall.size.high size rows (by_list _ in_step.begins h) in_step.third k l)
             (λ out.
             said_row out
             ∙ sym (sound_firm (calm out) rows table i k this_box (trusted out).leader (not_zero out)).1)
 
+        -- what it hears is step 3's
+        hears_third : (j : ℕ) → j < n → heard_by seat k j ≡ heard3 n s.t s.faulty rows lists table i j k
+        hears_third j lj =
+            ap₂ (λ (at list : ℕ). heard_from at s list table said i k j) in_step.begins seat.its_own
+            ∙ third_heard s lists table said heard i seat.hall.size.high size rows in_step.third k j l lj
+
         -- the echoes are the faulty boxes that say the leader's row too
         echoes_are : (out : must_count seat.hall own k ≡ false) →
-            echoes_to (said_here seat said) (third_from seat (get_or lists i 0) table said) seat.hall.odd n k ≡
+            echoes_to (said_here seat) (heard_by seat) seat.hall.odd n k ≡
             count n
             (λ j. member s.faulty j && eqb (heard3 n s.t s.faulty rows lists table i j k) (get_or rows k 0))
         unfolding echoes_to
         echoes_are out =
             count_ext n _ _
             (λ j lj.
-            rw (
-              p.prepared.odd_set j,
-              (trusted out).none_odd j,
-              third_heard s lists table said heard i p.prepared.size.high size rows e k j l lj,
-              said_row out,
-            )
-            refl)
+            rw (seat.hall.odd_set j, (trusted out).none_odd j, hears_third j lj, said_row out) refl)
 
         -- and the support
-        pub supports_made : {echoes : List ℕ} →
-            echoes ≡
-            echoes_of (said_here seat said) (third_from seat (get_or lists i 0) table said) seat.hall.odd n n →
-            support_by seat said heard k echoes ≡ supports_of_sound s rows lists table i k
+        pub supports_made : {echoes : List ℕ} → Echoed seat echoes →
+            support_by seat heard k echoes ≡ supports_found seat.hall i k
         supports_made counted =
-            made _ (λ t. support_of) _ _ k (supports_heard s _ _ _ _ _ p.prepared.size.high size rows h e k l)
+            made _ (λ t. support_of) _ _ k
+            (supports_heard s _ _ _ _ _ seat.hall.size.high size rows (by_list _ in_step.begins h) in_step.third k l)
             (λ out.
-            ap₂ ◌+◌ p.prepared.all_sound
-            (echoes_at _ _ _ p.prepared.size.high n counted k l ∙ echoes_are out)
+            ap₂ ◌+◌ seat.hall.all_sound
+            (echoes_at _ _ _ seat.hall.size.high n counted k l ∙ echoes_are out)
             ∙ sym (sound_support (calm out) rows table i k this_box (trusted out).leader (not_zero out)))

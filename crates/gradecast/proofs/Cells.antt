@@ -8,7 +8,7 @@ use native.Mathlib.Nat.{suc-mul, mul-le-mul_right}
 use native.Mathlib.Numerals.{add-one}
 use native.Mathlib.Omega.{arith}
 use lib.Arith.{digits_div, digits_mod}
-use lib.ListN.{length, get_or, take, drop, set, replicate, length-set, length-drop, get_or-replicate}
+use lib.ListN.{length, get_or, take, drop, set, replicate, length-drop, get_or-replicate}
 use lib.Seq.{get_or-take, get_or-drop, length-take-le}
 use Rattle.sizes.proofs.Laws.{square_le}
 use Rattle.counting.specs.Count.{build, front}
@@ -92,30 +92,13 @@ cells_mapped n f g xs e =
 
 -- a loop that puts the numbers of box i one by one, as g gives them: after k of n turns the first k are put, behind
 -- the cells that stood there first
-abbrev pub Putting : ℕ → ℕ → (ℕ → ℕ) → List ℕ → ℕ → List ℕ → Type 0
-Putting n i g first k out = (k ≤ n) × (length out ≡ length first) × PutTo n i k g first out
-
-pub put_begins : (n i : ℕ) (g : ℕ → ℕ) (first : List ℕ) → Putting n i g first 0 first
-put_begins n i g first = (omega arith, refl, λ f h e. e ∙ ap (λ (q : ℕ). cells_to q n f) (omega arith))
-
 module _ {n i : ℕ} (high : n ≤ 13) (below : i < n) (g : ℕ → ℕ) {first : List ℕ} where
-  pub put_turn : (k : ℕ) (out : List ℕ) {v : ℕ} → Putting n i g first k out → k < n → v ≡ g k →
-      Putting n i g first (k + 1) (set out (i * n + k) v)
-  put_turn k out {v} p l h = (
-    omega (arith, l),
-    length-set out (i * n + k) v ∙ p.1,
-    λ f q e. cells_turn n f high below l (p.2 f q e) (h ∙ sym (q k l)),
-  )
+  pub put_turn : (k : ℕ) (out : List ℕ) {v : ℕ} → PutTo n i k g first out → k < n → v ≡ g k →
+      PutTo n i (k + 1) g first (set out (i * n + k) v)
+  put_turn k out p l h = λ f q e. cells_turn n f high below l (p f q e) (h ∙ sym (q k l))
 
-  -- the next cell is one of those that stood there
-  pub put_fits : {k : ℕ} {out : List ℕ} → length first ≡ 169 → Putting n i g first k out → k < n →
-      i * n + k < length out
-  put_fits whole p l = omega (arith, place_fits high below l, whole, p.1)
-
-  pub put_ends : {k : ℕ} {out : List ℕ} → Putting n i g first k out → n ≤ k → PutTo n i n g first out
-  put_ends {k = k} p l =
-      let q : k ≡ n = omega (arith, p.0, l) in
-      λ f h e. p.2 f h e ∙ ap (λ (m : ℕ). cells_to (i * n + m) n f) q
+  pub put_ends : {k : ℕ} {out : List ℕ} → k ≡ n → PutTo n i k g first out → PutTo n i n g first out
+  put_ends q p = λ f h e. p f h e ∙ ap (λ (m : ℕ). cells_to (i * n + m) n f) q
 
   -- nothing is put for a faulty box
   pub put_skipped : ((k : ℕ) → k < n → g k ≡ 0) → PutTo n i n g first first
@@ -126,29 +109,18 @@ module _ {n i : ℕ} (high : n ≤ 13) (below : i < n) (g : ℕ → ℕ) {first 
       PutTo n i n g first last
   put_same b z p = λ f h e. p f (λ k l. h k l ∙ sym (z k l)) e
 
--- the boxes, one by one
-pub box_turn : (n i : ℕ) (f : ℕ → ℕ → ℕ) {out last : List ℕ} → out ≡ cells_to (i * n) n f →
-    PutTo n i n (f i) out last →
-    last ≡ cells_to ((i + 1) * n) n f
-box_turn n i f e p = p f (λ k l. refl) e ∙ ap (λ (m : ℕ). cells_to m n f) (row_after n i)
+-- a loop that goes through the boxes: after i of n turns the cells of the boxes below i are put
+abbrev pub BoxesTo : ℕ → (ℕ → ℕ → ℕ) → ℕ → List ℕ → Type 0
+BoxesTo n f i out = out ≡ cells_to (i * n) n f
 
-pub box_whole : {n i : ℕ} (f : ℕ → ℕ → ℕ) {out : List ℕ} → i ≡ n → out ≡ cells_to (i * n) n f → out ≡ cells n f
-unfolding cells
-box_whole {n} f h e = e ∙ ap (λ (m : ℕ). cells_to (m * n) n f) h
+module _ (n : ℕ) (f : ℕ → ℕ → ℕ) where
+  pub boxes_begin : {out : List ℕ} → out ≡ replicate 169 0 → BoxesTo n f 0 out
+  boxes_begin e = e ∙ cells_none n f
 
--- a loop that goes through the boxes: after i of n turns the cells of the boxes below i are put. They come from rows
--- that the loop does not know, but for what P says of them
-abbrev pub BoxesTo : ℕ → (List ℕ → Type 0) → (List ℕ → ℕ → ℕ → ℕ) → ℕ → List ℕ → Type 0
-BoxesTo n P f i out = (length out ≡ 169) × ((rows : List ℕ) → P rows → out ≡ cells_to (i * n) n (f rows))
+  pub boxes_turn : {i : ℕ} {out last : List ℕ} → BoxesTo n f i out → PutTo n i n (f i) out last →
+      BoxesTo n f (i + 1) last
+  boxes_turn {i} e p = p f (λ k l. refl) e ∙ ap (λ (m : ℕ). cells_to m n f) (row_after n i)
 
-module _ (n : ℕ) (P : List ℕ → Type 0) (f : List ℕ → ℕ → ℕ → ℕ) where
-  pub boxes_begin : {out : List ℕ} → out ≡ replicate 169 0 → BoxesTo n P f 0 out
-  boxes_begin e = (ap length e, λ rows h. e ∙ cells_none n (f rows))
-
-  pub boxes_turn : (i : ℕ) {out last : List ℕ} → BoxesTo n P f i out → length last ≡ length out →
-      ((rows : List ℕ) → P rows → PutTo n i n (f rows i) out last) → BoxesTo n P f (i + 1) last
-  boxes_turn i b same p = (same ∙ b.0, λ rows h. box_turn n i (f rows) (b.1 rows h) (p rows h))
-
-  pub boxes_end : {i : ℕ} {out : List ℕ} → i ≡ n → BoxesTo n P f i out →
-      (rows : List ℕ) → P rows → out ≡ cells n (f rows)
-  boxes_end q b = λ rows h. box_whole (f rows) q (b.1 rows h)
+  pub boxes_end : {i : ℕ} {out : List ℕ} → i ≡ n → BoxesTo n f i out → out ≡ cells n f
+  unfolding cells
+  boxes_end h e = e ∙ ap (λ (m : ℕ). cells_to (m * n) n f) h

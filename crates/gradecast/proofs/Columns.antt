@@ -7,7 +7,7 @@ use mathlib.Core.Logic.{⊎_elim}
 use Prim.Native.Nat.{ℕ, ◌+◌, ◌-◌, ◌*◌, ◌/◌, ◌%◌, ◌≤◌, ◌<◌}
 use native.Mathlib.Omega.{arith}
 use lib.Arith.{digits_div, digits_mod}
-use lib.ListN.{length, get_or, take, drop, set, length-set, length-drop}
+use lib.ListN.{length, get_or, take, drop, set, length-drop}
 use lib.Seq.{get_or-set_same, get_or-set_other, length-take-le}
 use Rattle.counting.specs.Count.{build}
 use Rattle.counting.proofs.Count.{at_or_below}
@@ -33,26 +33,19 @@ digits_low {n} a b c d hb hd e = sym (digits_mod a hb) ∙ ap (λ (m : ℕ). m %
 
 -- a loop that puts down the rows of sender j one by one, as g gives them: after k of n turns the first k are there,
 -- and the other senders' rows stand as they did first
-abbrev pub Hearing : ℕ → ℕ → (ℕ → ℕ) → List ℕ → ℕ → List ℕ → Type 0
-Hearing n j g first k heard = (k ≤ n) × (length heard ≡ length first) × FromSender n j k g first heard
+pub sender_begins : (n j : ℕ) (g : ℕ → ℕ) (first : List ℕ) → FromSender n j 0 g first first
+sender_begins n j g first = record { put = λ k l. absurd (omega arith); stays = λ k other l d. refl }
 
-pub sender_begins : (n j : ℕ) (g : ℕ → ℕ) (first : List ℕ) → Hearing n j g first 0 first
-sender_begins n j g first =
-    (omega arith, refl, record { put = λ k l. absurd (omega arith); stays = λ k other l d. refl })
-
-module _ {n j : ℕ} (high : n ≤ 13) (below : j < n) (g : ℕ → ℕ) {first : List ℕ} (whole : length first ≡ 169) where
-  pub sender_turn : (k : ℕ) (heard : List ℕ) {v : ℕ} → Hearing n j g first k heard → k < n → v ≡ g k →
-      Hearing n j g first (k + 1) (set heard (k * n + j) v)
-  sender_turn k heard {v} h l e = (
-    omega (arith, l),
-    length-set heard (k * n + j) v ∙ h.1,
-    record { put = λ a la. ⊎_elim (at a) (before a) (at_or_below a k (omega arith)); stays = stays },
-  )
+module _ {n j : ℕ} (high : n ≤ 13) (below : j < n) (g : ℕ → ℕ) {first : List ℕ} where
+  pub sender_turn : (k : ℕ) (heard : List ℕ) {v : ℕ} → length heard ≡ 169 → FromSender n j k g first heard → k < n →
+      v ≡ g k → FromSender n j (k + 1) g first (set heard (k * n + j) v)
+  sender_turn k heard {v} whole h l e =
+      record { put = λ a la. ⊎_elim (at a) (before a) (at_or_below a k (omega arith)); stays = stays }
     where
       at : (a : ℕ) → a ≡ k → get_or (set heard (k * n + j) v) (a * n + j) 0 ≡ g a
       at a q =
           ap (λ (m : ℕ). get_or (set heard (k * n + j) v) (m * n + j) 0) q
-          ∙ get_or-set_same heard (k * n + j) v 0 (omega (arith, part_fits high l, whole, h.1))
+          ∙ get_or-set_same heard (k * n + j) v 0 (omega (arith, place_fits high l below, whole))
           ∙ e
           ∙ ap g (sym q)
 
@@ -60,22 +53,18 @@ module _ {n j : ℕ} (high : n ≤ 13) (below : j < n) (g : ℕ → ℕ) {first 
       before a la =
           get_or-set_other heard (k * n + j) (a * n + j) v 0
           (λ q. absurd (omega (arith, digits_high a j k j below below q)))
-          ∙ h.2.put a la
+          ∙ h.put a la
 
       stays : (a other : ℕ) → other < n → (other ≡ j → ⊥) →
           get_or (set heard (k * n + j) v) (a * n + other) 0 ≡ get_or first (a * n + other) 0
       stays a other lo d =
           get_or-set_other heard (k * n + j) (a * n + other) v 0 (λ q. d (digits_low a other k j lo below q))
-          ∙ h.2.stays a other lo d
-
-  -- the next row's place is one of those that stood there
-  pub sender_fits : {k : ℕ} {heard : List ℕ} → Hearing n j g first k heard → k < n → k * n + j < length heard
-  sender_fits h l = omega (arith, place_fits high l below, whole, h.1)
+          ∙ h.stays a other lo d
 
 -- all of them are there
-pub sender_ends : {n j k : ℕ} (g : ℕ → ℕ) {first heard : List ℕ} → Hearing n j g first k heard → n ≤ k →
+pub sender_ends : {n j k : ℕ} (g : ℕ → ℕ) {first heard : List ℕ} → n ≤ k → FromSender n j k g first heard →
     FromSender n j n g first heard
-sender_ends g h l = record { put = λ a la. h.2.put a (omega (arith, la, l)); stays = h.2.stays }
+sender_ends g l h = record { put = λ a la. h.put a (omega (arith, la, l)); stays = h.stays }
 
 -- one more sender's rows are there
 pub senders_turn : {n j : ℕ} (g : ℕ → ℕ → ℕ) {heard last : List ℕ} → j < n → SendersTo n j g heard →
@@ -89,11 +78,14 @@ senders_turn {n} {j} g {heard} {last} hj h p =
     below : (k b : ℕ) → k < n → b < j → get_or last (k * n + b) 0 ≡ g k b
     below k b hk l = p.stays k b (omega arith) (λ q. absurd (omega arith)) ∙ h k b hk l
 
--- a leader's column lies within what was heard
-pub column_fits : {n t k : ℕ} (heard : List ℕ) → Sized n t → k < n → length heard ≡ 169 → k * n + n ≤ length heard
-column_fits heard size leader all = omega (arith, part_fits size.high leader, all)
+-- the part that the code takes for leader k, from k * n to k * n + n, is k's column
+pub part_column : (n k : ℕ) (heard : List ℕ) → take (k * n + n - k * n) (drop (k * n) heard) ≡ column_of n heard k
+unfolding column_of
+part_column n k heard =
+    let whole : k * n + n - k * n ≡ n = omega arith in
+    ap (λ (m : ℕ). take m (drop (k * n) heard)) whole
 
--- vote and grade over a leader's column, which the code takes from k * n to k * n + n
+-- vote and grade over a leader's column
 module _
     (s : Settings) {k : ℕ} (size : RightSize s) (leader : k < s.n) (heard : List ℕ) (all : length heard ≡ 169)
   where
@@ -103,17 +95,9 @@ module _
     abbrev t : ℕ
     t = s.t
 
-    -- the part that the code takes
-    abbrev part : List ℕ
-    part = take (k * n + n - k * n) (drop (k * n) heard)
-
-    part_column : part ≡ column_of n heard k
+    column_fits : Sized (length (column_of n heard k)) t
     unfolding column_of
-    part_column = let whole : k * n + n - k * n ≡ n = omega arith in ap (λ (m : ℕ). take m (drop (k * n) heard)) whole
-
-    fits : Sized (length (column_of n heard k)) t
-    unfolding column_of
-    fits =
+    column_fits =
         let left = length-drop (k * n) heard in
         let m = length-take-le n (drop (k * n) heard) (omega (arith, left, part_fits size.high leader, all)) in
         record {
@@ -122,15 +106,19 @@ module _
           tolerated = omega (arith, m, size.tolerated);
         }
 
-    pub part_vote : (vote_reply part t).row ≡ vote_of t (column_of n heard k)
-    part_vote = ap (λ (xs : List ℕ). (vote_reply xs t).row) part_column ∙ vote_row (column_of n heard k) t fits
+    module _ {part : List ℕ} (is_column : part ≡ column_of n heard k) where
+      pub column_vote : (vote_reply part t).row ≡ vote_of t (column_of n heard k)
+      column_vote =
+          ap (λ (xs : List ℕ). (vote_reply xs t).row) is_column ∙ vote_row (column_of n heard k) t column_fits
 
-    pub part_row : (grade_reply part t).row ≡ graded_row t (column_of n heard k)
-    part_row = ap (λ (xs : List ℕ). (grade_reply xs t).row) part_column ∙ grade_row_lem (column_of n heard k) t fits
+      pub column_row : (grade_reply part t).row ≡ graded_row t (column_of n heard k)
+      column_row =
+          ap (λ (xs : List ℕ). (grade_reply xs t).row) is_column ∙ grade_row_lem (column_of n heard k) t column_fits
 
-    pub part_support : (grade_reply part t).support ≡ support_of (column_of n heard k)
-    part_support =
-        ap (λ (xs : List ℕ). (grade_reply xs t).support) part_column ∙ grade_support (column_of n heard k) t fits
+      pub column_support : (grade_reply part t).support ≡ support_of (column_of n heard k)
+      column_support =
+          ap (λ (xs : List ℕ). (grade_reply xs t).support) is_column
+          ∙ grade_support (column_of n heard k) t column_fits
 
 -- what a box makes of the columns that it heard
 module _

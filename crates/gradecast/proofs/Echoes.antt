@@ -8,10 +8,10 @@ use Prim.Native.Nat.{ℕ, ◌+◌, ◌≤◌, ◌<◌}
 use native.Mathlib.Numerals.{add-one}
 use native.Mathlib.Omega.{arith}
 use lib.Dec.{eqb}
-use lib.ListN.{length, get_or, replicate, get_or-replicate}
+use lib.ListN.{get_or, replicate, get_or-replicate}
 use Rattle.counting.specs.Count.{count, front}
 use Rattle.counting.specs.Sets.{member}
-use Rattle.counting.proofs.Build.{front_at, front_length, front_same, front_ext, front_again}
+use Rattle.counting.proofs.Build.{front_at, front_same, front_ext, front_again}
 use Rattle.counting.proofs.Count.{count_le, count_turn}
 use Rattle.gradecast.specs.Inside.{echoes_to, echoes_of, one_more}
 
@@ -32,9 +32,6 @@ module _ (own : ℕ → ℕ) (from : ℕ → ℕ → ℕ) (odd : ℕ) {n : ℕ} 
     unfolding echoes_to
     echoes_few k l =
         omega (arith, echoes_at k l, count_le j (λ b. member odd b && eqb (from k b) (own k)))
-
-    pub echoes_length : length echoes ≡ 13
-    echoes_length = ap length e ∙ front_length n (echoes_to own from odd j) (replicate 13 0) high
 
     -- one more sender that is gone through
     pub echoes_turn : {last : List ℕ} → member odd j ≡ true → last ≡ front n (one_more own from echoes j) echoes →

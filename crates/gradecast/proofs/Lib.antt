@@ -15,3 +15,4 @@ pub mod Sent
 pub mod Sound
 pub mod Wrong
 pub mod Echoes
+pub mod Turns

@@ -50,30 +50,33 @@ module _ (faulty : ℕ) (lists : List ℕ) where
       listed a = member (get_or lists a 0) j
 
 module _ (s : Settings) (lists said : List ℕ) where
-  module _ (base : ℕ) (table : List ℕ) (i : ℕ) (is_box : i < 13) where
-    -- what the box hears from each sender about each leader
-    abbrev heard_by : ℕ → ℕ → ℕ
-    heard_by = heard_from base s (get_or lists i 0) table said i
+  module _
+      (base : ℕ) (table : List ℕ) {i list : ℕ} (is_box : i < 13) (its_own : list ≡ get_or lists i 0)
+    where
+      -- what the box hears from each sender about each leader
+      abbrev heard_by : ℕ → ℕ → ℕ
+      heard_by = heard_from base s list table said i
 
-    -- from a sender that is neither faulty nor listed
-    plain_heard : (k j : ℕ) → odd_to 13 s.faulty lists j ≡ false → heard_by k j ≡ said_by s.n said k j
-    unfolding heard_from hears sends odd_to
-    plain_heard k j h =
-        rw (
-          not_odd_listed s.faulty lists j h i is_box,
-          or_false_left (member s.faulty j) (any 13 (λ a. member (get_or lists a 0) j)) h,
-        )
-        refl
+      -- from a sender that is neither faulty nor listed
+      plain_heard : (k j : ℕ) → odd_to 13 s.faulty lists j ≡ false → heard_by k j ≡ said_by s.n said k j
+      unfolding heard_from hears sends odd_to
+      plain_heard k j h =
+          rw (
+            its_own,
+            not_odd_listed s.faulty lists j h i is_box,
+            or_false_left (member s.faulty j) (any 13 (λ a. member (get_or lists a 0) j)) h,
+          )
+          refl
 
-    -- so its rows are there already
-    pub plain_turn : (j : ℕ) (heard : List ℕ) → j < s.n → odd_to 13 s.faulty lists j ≡ false →
-        PlainHeard s lists said heard → SendersTo s.n j heard_by heard → SendersTo s.n (j + 1) heard_by heard
-    plain_turn j heard hj o plain h = λ k b hk l. ⊎_elim (at k b hk) (h k b hk) (at_or_below b j (omega arith))
-      where
-        at : (k b : ℕ) → k < s.n → b ≡ j → get_or heard (k * s.n + b) 0 ≡ heard_by k b
-        at k b hk q =
-            let ob = ap (odd_to 13 s.faulty lists) q ∙ o in
-            plain k b hk (omega arith) ob ∙ sym (plain_heard k b ob)
+      -- so its rows are there already
+      pub plain_turn : (j : ℕ) (heard : List ℕ) → j < s.n → odd_to 13 s.faulty lists j ≡ false →
+          PlainHeard s lists said heard → SendersTo s.n j heard_by heard → SendersTo s.n (j + 1) heard_by heard
+      plain_turn j heard hj o plain h = λ k b hk l. ⊎_elim (at k b hk) (h k b hk) (at_or_below b j (omega arith))
+        where
+          at : (k b : ℕ) → k < s.n → b ≡ j → get_or heard (k * s.n + b) 0 ≡ heard_by k b
+          at k b hk q =
+              let ob = ap (odd_to 13 s.faulty lists) q ∙ o in
+              plain k b hk (omega arith) ob ∙ sym (plain_heard k b ob)
 
   -- the rows of another sender leave them as they are
   pub plain_stays : (j : ℕ) (g : ℕ → ℕ) (heard last : List ℕ) → odd_to 13 s.faulty lists j ≡ true →

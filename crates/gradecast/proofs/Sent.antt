@@ -5,12 +5,9 @@
 use mathlib.Core.Path.{◌≡◌, refl, sym, ap, ap₂, ◌∙◌}
 use mathlib.Core.Bool.{Bool, true, false, cond, not, ◌&&◌}
 use mathlib.Core.List.{List}
-use Prim.Native.Nat.{ℕ, ◌+◌, ◌-◌, ◌*◌, ◌/◌, ◌%◌, ◌≤◌}
-use native.Mathlib.Omega.{arith}
+use Prim.Native.Nat.{ℕ, ◌+◌, ◌-◌, ◌*◌, ◌/◌, ◌%◌}
 use lib.Dec.{eqb}
-use lib.ListN.{length, get_or, take, replicate}
-use lib.Seq.{length-take-le}
-use Rattle.sizes.proofs.Laws.{square_le}
+use lib.ListN.{get_or, take, replicate}
 use Rattle.counting.specs.Count.{sum, count, build}
 use Rattle.counting.proofs.Bools.{cond_true, cond_false}
 use Rattle.counting.proofs.Build.{front_take, length_build, get_or_build}
@@ -50,10 +47,6 @@ filled_cells n faulty f xs e =
     of_row j false h =
         count_none n (is j) (λ k l. ap (λ (b : Bool). not (eqb (cond b (f j k) 0) 0)) h)
         ∙ sym (cond_false _ 0 h)
-
--- and there are n² of them
-pub length_filled : {n : ℕ} (xs : List ℕ) → n ≤ 13 → length xs ≡ 169 → length (take (n * n) xs) ≡ n * n
-length_filled {n} xs high size = length-take-le (n * n) xs (omega (arith, square_le high))
 
 parted : (b : Bool) (x y z : ℕ) → cond b (x + y + z) 0 ≡ cond b x 0 + cond b y 0 + cond b z 0
 parted true x y z = refl

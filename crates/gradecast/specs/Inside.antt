@@ -1,46 +1,15 @@
--- What the private functions say of their parts of the work. No promise of the crate names any of it.
-use Rattle.std.specs.Prelude.{
-  ℕ,
-  ◌+◌,
-  ◌-◌,
-  ◌*◌,
-  ◌≤◌,
-  ◌<◌,
-  ◌≡◌,
-  Bool,
-  false,
-  cond,
-  not,
-  ◌||◌,
-  ◌&&◌,
-  List,
-  eqb,
-  length,
-  get_or,
-  take,
-  drop,
-  replicate,
-}
+-- What the private functions say of their parts of the work, but for what Seats.antt has. No promise of the crate
+-- names any of it.
+use Rattle.std.specs.Prelude.{ℕ, ◌+◌, ◌*◌, ◌≤◌, ◌<◌, ◌≡◌, Bool, false, cond, not, ◌||◌, ◌&&◌}
+use Rattle.std.specs.Prelude.{List, eqb, length, get_or, take, drop, replicate}
 use Rattle.counting.specs.Count.{any, count, front}
 use Rattle.counting.specs.Sets.{member}
 use Rattle.sizes.specs.Sizes.{table_rows, sound, Sized}
-use Rattle.tally.specs.Tally.{vote_of, support_of, confidence_at, graded_row}
-use Rattle.gradecast.specs.Steps.{
-  place_from,
-  sends,
-  hears,
-  sent1,
-  heard1,
-  voted,
-  support_for,
-  grade_row,
-  messages,
-}
+use Rattle.tally.specs.Tally.{confidence_at}
+use Rattle.gradecast.specs.Steps.{place_from, sends, hears, sent1, heard1, voted, support_for, grade_row}
 use Rattle.gradecast.specs.Cast.{of_sound, cells_to, cells}
-use Rattle.gradecast.specs.Fair.{SoundBox, faulty_boxes, NoSoundListed, Tolerated, FewFaulty}
+use Rattle.gradecast.specs.Fair.{SoundBox, NoSoundListed, Tolerated, FewFaulty}
 use Rattle.gradecast.specs.declared.Settings.{Settings}
-use Rattle.gradecast.specs.declared.Hall.{Hall}
-use Rattle.gradecast.specs.declared.Seat.{Seat}
 
 -- what steps 1 to 4 count on: the call was not refused by 4 or 11
 pub record Ready (n : ℕ) (table : List ℕ) : Type 0 where
@@ -119,19 +88,6 @@ EnoughAsked s lists asked = (k : ℕ) → k < s.n → member asked k ≡ false �
 abbrev pub AskedFor : Settings → ℕ → ℕ → Type 0
 AskedFor s odd asked = (lists : List ℕ) → OddSet 13 s.faulty lists odd → EnoughAsked s lists asked
 
--- all that the boxes go by is as it must be, for these lists and this table
-pub record Prepared (hall : Hall) (lists table : List ℕ) : Type 0 where
-  pub ready : Ready hall.settings.n table
-  pub size : RightSize hall.settings
-  pub all_sound : hall.many ≡ hall.settings.n - faulty_boxes hall.settings.n hall.settings.faulty
-  pub odd_set : OddSet 13 hall.settings.faulty lists hall.odd
-  pub enough : EnoughAsked hall.settings lists hall.asked
-
--- and the box in this seat is one of the n
-pub record Seated (seat : Seat) (lists table : List ℕ) : Type 0 where
-  pub prepared : Prepared seat.hall lists table
-  pub below : seat.i < seat.hall.settings.n
-
 -- where the cells before box i's are there, the first m of its own, which g gives, are put behind them
 abbrev pub PutTo : ℕ → ℕ → ℕ → (ℕ → ℕ) → List ℕ → List ℕ → Type 0
 PutTo n i m g out last =
@@ -144,29 +100,6 @@ column_of n heard k = take n (drop (k * n) heard)
 -- what a box makes of leader k: the count over k's column where k is to be counted, else what it has with no counting
 unfoldable pub on_leader : Bool → Settings → (ℕ → List ℕ → ℕ) → ℕ → List ℕ → ℕ → ℕ
 on_leader to-count s counted plain heard k = cond to-count (counted s.t (column_of s.n heard k)) plain
-
--- must a box that said this about leader k count it in step 4? Where no sound box names a row for a leader, a faulty
--- one still may, and that row has support.
-abbrev pub must_count : Hall → ℕ → ℕ → Bool
-must_count hall own k = eqb own 0 || member hall.asked k
-
--- the box in this seat: what it hears from sender j about leader k in step 2 and in step 3, with this list; and that
--- all of it is there, with its own list
-module _ (seat : Seat) where
-  abbrev n : ℕ
-  n = seat.hall.settings.n
-
-  abbrev pub second_from : ℕ → List ℕ → List ℕ → ℕ → ℕ → ℕ
-  second_from list table said k j = heard_from (n * n) seat.hall.settings list table said seat.i k j
-
-  abbrev pub AllSecond : List ℕ → List ℕ → List ℕ → List ℕ → Type 0
-  AllSecond lists table said = SendersTo n n (second_from (get_or lists seat.i 0) table said)
-
-  abbrev pub third_from : ℕ → List ℕ → List ℕ → ℕ → ℕ → ℕ
-  third_from list table said k j = heard_from (n * n + n * n * n) seat.hall.settings list table said seat.i k j
-
-  abbrev pub AllThird : List ℕ → List ℕ → List ℕ → List ℕ → Type 0
-  AllThird lists table said = SendersTo n n (third_from (get_or lists seat.i 0) table said)
 
 -- the echoes of a box that says own k about leader k, and hears from k j from sender j about k
 module _ (own : ℕ → ℕ) (from : ℕ → ℕ → ℕ) where
@@ -185,26 +118,6 @@ module _ (own : ℕ → ℕ) (from : ℕ → ℕ → ℕ) where
 -- none of the first n numbers is above n
 abbrev pub AtMost : ℕ → List ℕ → Type 0
 AtMost n xs = (k : ℕ) → k < n → get_or xs k 0 ≤ n
-
--- what the box in this seat said about leader k
-abbrev pub said_here : Seat → List ℕ → ℕ → ℕ
-said_here seat said k = said_by seat.hall.settings.n said k seat.i
-
--- what it makes of leader k from what it said and heard: its vote; the row and the support of its grade
-module _ (seat : Seat) (said heard : List ℕ) (k : ℕ) where
-  abbrev own : ℕ
-  own = said_here seat said k
-
-  abbrev pub vote_by : ℕ
-  vote_by = on_leader (member seat.hall.asked k) seat.hall.settings vote_of own heard k
-
-  abbrev pub row_by : ℕ
-  row_by = on_leader (must_count seat.hall own k) seat.hall.settings graded_row own heard k
-
-  abbrev pub support_by : List ℕ → ℕ
-  support_by echoes =
-      on_leader (must_count seat.hall own k) seat.hall.settings (λ t. support_of)
-      (seat.hall.many + get_or echoes k 0) heard k
 
 -- what the sound boxes make of the rows in each step, and 0 in a faulty box's place: V, Y, and the row and the
 -- support of step 4
@@ -230,31 +143,6 @@ module _ (s : Settings) (lists table said : List ℕ) where
   abbrev pub SaidThird : List ℕ → Type 0
   SaidThird rows = said ≡ cells s.n (votes_of_sound s rows lists table)
 
-  -- the votes of box i are put to the cells
-  abbrev pub PutVotes : ℕ → List ℕ → List ℕ → Type 0
-  PutVotes i out last =
-      (rows : List ℕ) → SaidSecond rows → PutTo s.n i s.n (votes_of_sound s rows lists table i) out last
-
-  -- all votes are there
-  abbrev pub AllVotes : List ℕ → Type 0
-  AllVotes last = (rows : List ℕ) → SaidSecond rows → last ≡ cells s.n (votes_of_sound s rows lists table)
-
-  -- the grades of box i are put to the cells
-  abbrev pub PutRows : ℕ → List ℕ → List ℕ → Type 0
-  PutRows i out last =
-      (rows : List ℕ) → SaidThird rows → PutTo s.n i s.n (rows_of_sound s rows lists table i) out last
-
-  abbrev pub PutSupports : ℕ → List ℕ → List ℕ → Type 0
-  PutSupports i out last =
-      (rows : List ℕ) → SaidThird rows → PutTo s.n i s.n (supports_of_sound s rows lists table i) out last
-
-  -- all grades are there
-  abbrev pub AllGrades : List ℕ → List ℕ → Type 0
-  AllGrades last-rows last-supports =
-      (rows : List ℕ) → SaidThird rows →
-      (last-rows ≡ cells s.n (rows_of_sound s rows lists table)) ×
-      (last-supports ≡ cells s.n (supports_of_sound s rows lists table))
-
 -- the confidences that these supports give, where they are n rows of n
 abbrev pub Confidences : Settings → List ℕ → List ℕ → Type 0
 Confidences s supports confidences =
@@ -267,9 +155,3 @@ filled xs = count (length xs) (λ k. not (eqb (get_or xs k 0) 0))
 -- does box j send its row in step 1, as a sound box that has one?
 abbrev pub sends_first : ℕ → List ℕ → ℕ → Bool
 sends_first faulty rows j = sound faulty j && not (eqb (sent1 rows j) 0)
-
--- the messages, where the cells are what the sound boxes send in steps 2 and 3
-abbrev pub AllSent : Settings → List ℕ → List ℕ → List ℕ → ℕ → Type 0
-AllSent s rows second third sent =
-    (lists table : List ℕ) → SaidSecond s lists table second rows → SaidThird s lists table third rows →
-    sent ≡ messages s.n s.t s.faulty rows lists table

@@ -1,18 +1,23 @@
--- One digit more behind a number that is read, and how far a loop that reads the digits of a piece has come.
+-- One digit more behind a number that is read, and how far a loop that reads digits has come.
 -- Assumes nothing.
 use mathlib.Core.Path.{◌≡◌, refl, sym, ap, ◌∙◌}
 use mathlib.Core.Bool.{Bool, true, false, ◌&&◌}
 use mathlib.Core.List.{List, [], ◌∷◌}
 use Prim.Native.Nat.{ℕ, ◌+◌, ◌-◌, ◌*◌, ◌^◌, ◌≤◌, ◌<◌}
 use native.Mathlib.Nat.{le_refl}
+use native.Mathlib.Numerals.{add-one}
 use native.Mathlib.Omega.{arith}
 use lib.Dec.{ltb}
-use lib.ListN.{length, get_or, drop}
+use lib.ListN.{length, get_or, drop, drop_of_length-le}
+use lib.Seq.{drop-cons}
 use borrow.Author.Tests.{lt-ltb, le-ltb, ltb-true, ltb-false}
 use Rattle.counting.proofs.Bools.{both, and_right, and_false_right, not_both}
+use Rattle.std.proofs.Common.{Option, Some, None, MatchOption, inl, inr}
+use Rattle.std.specs.Char.{IsAsciiDigit, IsNotAsciiDigit}
+use Rattle.std.specs.Option.{SomeIff}
 use Rattle.lines.specs.Line.{read_on}
-use Rattle.lines.specs.Read.{piece, is_digit, is_digits, is_small}
-use Rattle.lines.proofs.Pieces.{piece_goes}
+use Rattle.lines.specs.Read.{is_digit, is_digits, is_small}
+use Rattle.lines.specs.Inside.{with_digit, takes}
 
 -- digits behind a number already read: they are digits, and the number stays below 2⁶⁴
 unfoldable pub fits : ℕ → List ℕ → Bool
@@ -32,31 +37,27 @@ fits_none : (before : ℕ) → before < 2 ^ 64 → fits before [] ≡ true
 unfolding fits is_digits read_on
 fits_none before l = lt-ltb before (2 ^ 64) l
 
--- one digit more, and whether it is one and leaves the number below 2⁶⁴
-abbrev pub with_digit : ℕ → ℕ → ℕ
-with_digit before byte = before * 10 + (byte - 48)
-
-abbrev pub takes : ℕ → ℕ → Bool
-takes before byte = is_digit byte && ltb (with_digit before byte) (2 ^ 64)
-
 module _ (before byte : ℕ) where
-  pub takes_low : byte < 48 → takes before byte ≡ false
+  pub takes_none : IsNotAsciiDigit byte → takes before byte ≡ false
   unfolding is_digit
-  takes_low l =
-      not_both (ltb (with_digit before byte) (2 ^ 64)) (not_both (ltb byte 58) (le-ltb 47 byte (omega arith)))
-
-  pub takes_high : 57 < byte → takes before byte ≡ false
-  unfolding is_digit
-  takes_high l =
-      not_both (ltb (with_digit before byte) (2 ^ 64)) (and_false_right (ltb 47 byte) (le-ltb byte 58 (omega arith)))
+  takes_none (inl l) = not_both _ (not_both (ltb byte 58) (le-ltb 47 byte (omega (arith, l))))
+  takes_none (inr l) = not_both _ (and_false_right (ltb 47 byte) (le-ltb byte 58 (omega (arith, l))))
 
   pub takes_large : 2 ^ 64 ≤ with_digit before byte → takes before byte ≡ false
   takes_large l = and_false_right (is_digit byte) (le-ltb (with_digit before byte) (2 ^ 64) l)
 
-  pub takes_well : 48 ≤ byte → byte ≤ 57 → with_digit before byte < 2 ^ 64 → takes before byte ≡ true
+  takes_well : IsAsciiDigit byte → with_digit before byte < 2 ^ 64 → takes before byte ≡ true
   unfolding is_digit
-  takes_well h l m =
-      both (both (lt-ltb 47 byte (omega arith)) (lt-ltb byte 58 (omega arith))) (lt-ltb _ (2 ^ 64) m)
+  takes_well d m =
+      both (both (lt-ltb 47 byte (omega (arith, d.0))) (lt-ltb byte 58 (omega (arith, d.1)))) (lt-ltb _ (2 ^ 64) m)
+
+  -- the sum that is tried is the number with the digit behind it
+  pub takes_told : (tried : Option ℕ) (sum : ℕ) → SomeIff tried (sum < 2 ^ 64) sum → sum ≡ with_digit before byte →
+      IsAsciiDigit byte →
+      MatchOption tried (takes before byte ≡ false)
+      (λ more. (takes before byte ≡ true) × (more ≡ with_digit before byte))
+  takes_told None sum told e d = takes_large (omega (arith, e, told))
+  takes_told (Some more) sum told e d = (takes_well d (omega (arith, e, told.0)), told.1 ∙ e)
 
 fits_turn : (before byte : ℕ) (text : List ℕ) →
     fits before (byte ∷ text) ≡ (takes before byte && fits (with_digit before byte) text)
@@ -77,52 +78,45 @@ fits_turn before byte text = go (is_digit byte) (ltb (with_digit before byte) (2
           read_grows (with_digit before byte) text,
         )))
 
--- a loop that reads the digits of the piece from a place on has come to place i, with this value
-pub record ReadTo (text : List ℕ) (from i value : ℕ) : Type 0 where
-  pub within : i ≤ length text
+-- a loop that reads digits has come to place i, with this value
+pub record ReadTo (text : List ℕ) (i value : ℕ) : Type 0 where
   pub low : value < 2 ^ 64
-  pub good : is_small (piece (drop from text)) ≡ fits value (piece (drop i text))
-  pub read : read_on 0 (piece (drop from text)) ≡ read_on value (piece (drop i text))
-  pub long : from + length (piece (drop from text)) ≡ i + length (piece (drop i text))
+  pub good : is_small text ≡ fits value (drop i text)
+  pub read : read_on 0 text ≡ read_on value (drop i text)
 
-pub read_begins : (text : List ℕ) (from : ℕ) → from ≤ length text → ReadTo text from from 0
-read_begins text from h =
-    record { within = h; low = omega arith; good = small_fits (piece (drop from text)); read = refl; long = refl }
+pub read_begins : (text : List ℕ) → ReadTo text 0 0
+read_begins text = record { low = omega arith; good = small_fits text; read = refl }
 
-module _ (text : List ℕ) (from i value : ℕ) (r : ReadTo text from i value) where
-  module _ (l : i < length text) (d : get_or text i 0 ≡ 32 → ⊥) where
-    -- the byte there is the next of the piece
-    turn : is_small (piece (drop from text)) ≡
-        (takes value (get_or text i 0) && fits (with_digit value (get_or text i 0)) (piece (drop (i + 1) text)))
-    turn =
-        r.good ∙ ap (fits value) (piece_goes text i l d)
-        ∙ fits_turn value (get_or text i 0) (piece (drop (i + 1) text))
+module _ {text : List ℕ} {i value : ℕ} (r : ReadTo text i value) where
+  module _ (l : i < length text) where
+    -- the byte there is the next
+    here : drop i text ≡ get_or text i 0 ∷ drop (i + 1) text
+    here = rw add-one (drop-cons text i 0 l)
 
-    pub read_bad : takes value (get_or text i 0) ≡ false → is_small (piece (drop from text)) ≡ false
+    turn : is_small text ≡
+        (takes value (get_or text i 0) && fits (with_digit value (get_or text i 0)) (drop (i + 1) text))
+    turn = r.good ∙ ap (fits value) here ∙ fits_turn value (get_or text i 0) (drop (i + 1) text)
+
+    pub read_bad : takes value (get_or text i 0) ≡ false → is_small text ≡ false
     read_bad f = turn ∙ not_both _ f
 
-    pub read_turn : takes value (get_or text i 0) ≡ true →
-        ReadTo text from (i + 1) (with_digit value (get_or text i 0))
+    pub read_turn : takes value (get_or text i 0) ≡ true → ReadTo text (i + 1) (with_digit value (get_or text i 0))
     unfolding read_on
     read_turn t =
         record {
-          within = omega arith;
           low = ltb-true _ _ (and_right (is_digit (get_or text i 0)) _ t);
-          good =
-              turn
-              ∙ ap (λ (b : Bool). b && fits (with_digit value (get_or text i 0)) (piece (drop (i + 1) text))) t;
-          read = r.read ∙ ap (read_on value) (piece_goes text i l d);
-          long = r.long ∙ omega (arith, ap length (piece_goes text i l d));
+          good = turn ∙ ap (λ (b : Bool). b && fits (with_digit value (get_or text i 0)) (drop (i + 1) text)) t;
+          read = r.read ∙ ap (read_on value) here;
         }
 
-  -- the piece is at its end
-  module _ (e : piece (drop i text) ≡ []) where
-    pub read_good : is_small (piece (drop from text)) ≡ true
-    read_good = r.good ∙ ap (fits value) e ∙ fits_none value r.low
+  -- all are read
+  module _ (h : length text ≤ i) where
+    none : drop i text ≡ []
+    none = drop_of_length-le text {i = i} h
 
-    pub read_next : i ≡ from + length (piece (drop from text))
-    read_next = omega (arith, r.long, ap length e)
+    pub read_small : is_small text ≡ true
+    read_small = r.good ∙ ap (fits value) none ∙ fits_none value r.low
 
-    pub read_value : value ≡ read_on 0 (piece (drop from text))
+    pub read_value : value ≡ read_on 0 text
     unfolding read_on
-    read_value = sym (r.read ∙ ap (read_on value) e)
+    read_value = sym (r.read ∙ ap (read_on value) none)

@@ -1,16 +1,24 @@
 -- The pieces of a text: where one ends and what comes behind it; the line without its carriage return; and what a
 -- good line is. Assumes nothing.
-use mathlib.Core.Path.{◌≡◌, refl, sym, ap, ◌∙◌}
-use mathlib.Core.Bool.{Bool, true, false, cond, ◌&&◌}
+use mathlib.Core.Path.{◌≡◌, refl, sym, ap, ap₂, ◌∙◌}
+use mathlib.Core.Bool.{Bool, true, false, false≢true, cond, ◌&&◌}
 use mathlib.Core.List.{List, [], ◌∷◌}
+use Rattle.std.specs.Cmp.Lexicographic.{same_text}
 use Prim.Native.Nat.{ℕ, suc, ◌+◌, ◌-◌, ◌≤◌, ◌<◌}
 use native.Mathlib.Nat.{le_refl}
 use native.Mathlib.Numerals.{add-one}
 use native.Mathlib.Omega.{arith}
 use lib.Dec.{eqb, ltb}
-use lib.ListN.{length, get_or, take, drop, length-take, drop_of_length-le}
+use lib.ListN.{length, get_or, take, drop, length-take, drop_of_length-le, get_or-eq_default}
+use Rattle.std.proofs.lemmas.List.{get_or-drop}
 use lib.Seq.{drop-cons, take-length, length-take-le}
-use borrow.Author.Tests.{lt-ltb, le-ltb, ltb-true, eq-eqb, ne_eqb}
+use borrow.Author.Tests.{lt-ltb, le-ltb, ltb-true, ltb-false, eq-eqb, ne_eqb}
+use denote.Ref.{Bor}
+use lib.Pointwise.{pointwise}
+use Rattle.std.proofs.Common.{Option, Some, None, MatchOption}
+use Rattle.std.proofs.lemmas.List.Recursion.{is_position_or_len}
+use Rattle.std.specs.List.{position, position_or_len}
+use Rattle.std.specs.Option.{unwrap_or}
 use Rattle.counting.proofs.Bools.{cond_true, cond_false, and_left, and_right, not_both}
 use Rattle.lines.specs.Read.{bare, piece, behind, word_in, said_in, are_numbers, is_line}
 
@@ -34,6 +42,28 @@ piece_front (byte ∷ text) = go (eqb byte 32) (piece_front text)
         take (length (cond b [] (byte ∷ piece text))) (byte ∷ text) ≡ cond b [] (byte ∷ piece text)
     go true h = refl
     go false h = ap (λ (bytes : List ℕ). byte ∷ bytes) h
+
+-- it ends at the first space, or with the text
+piece_long : (text : List ℕ) → length (piece text) ≡ position_or_len (λ byte. eqb byte 32) text
+unfolding piece
+piece_long =
+    is_position_or_len (λ text. length (piece text)) (λ byte. eqb byte 32) refl
+    (λ byte text. go (eqb byte 32) byte text)
+  where
+    go : (b : Bool) (byte : ℕ) (text : List ℕ) →
+        length (cond b [] (byte ∷ piece text)) ≡ cond b 0 (1 + length (piece text))
+    go true byte text = refl
+    go false byte text = omega arith
+
+pub piece_found : (text : List ℕ) → unwrap_or (position (λ byte. eqb byte 32) text) (length text) ≡ length (piece text)
+piece_found text =
+    go (ltb (position_or_len (λ byte. eqb byte 32) text) (length text)) refl ∙ sym (piece_long text)
+  where
+    go : (b : Bool) → ltb (position_or_len (λ byte. eqb byte 32) text) (length text) ≡ b →
+        unwrap_or (cond b (Some (position_or_len (λ byte. eqb byte 32) text)) None) (length text)
+        ≡ position_or_len (λ byte. eqb byte 32) text
+    go true e = refl
+    go false e = omega (arith, piece_within text, piece_long text, ltb-false _ _ e)
 
 -- behind it no further piece begins until the next space
 pub piece_past : (text : List ℕ) → piece (drop (length (piece text)) text) ≡ []
@@ -92,6 +122,37 @@ bare_less line e = sym (cond_true _ _ (eq-eqb _ 13 e))
 pub bare_whole : (line : List ℕ) → (get_or line (length line - 1) 0 ≡ 13 → ⊥) → line ≡ bare line
 unfolding bare
 bare_whole line d = sym (cond_false _ _ (ne_eqb _ 13 d))
+
+-- what is left once a carriage return is stripped, if there is one
+module _ (line : Bor (List ℕ)) where
+  abbrev last : List ℕ
+  last = drop (length line.now - 1) line.now
+
+  returned : get_or line.now (length line.now - 1) 0 ≡ 13 → last ≡ 13 ∷ []
+  returned e =
+      let none = get_or-eq_default line.now 0 {n = length line.now - 1} in
+      let some : length line.now - 1 < length line.now = grind (arith, e, none) in
+      drop-cons line.now (length line.now - 1) 0 some
+      ∙ ap₂ (λ (byte : ℕ) (bytes : List ℕ). byte ∷ bytes) e
+      (drop_of_length-le line.now {i = suc (length line.now - 1)} (omega arith))
+
+  pub bare_told : (left : Option (Bor (List ℕ))) →
+      MatchOption left (pointwise eqb last (13 ∷ []) ≡ false)
+      (λ text. (pointwise eqb last (13 ∷ []) ≡ true)
+      × (text.now ≡ take (length line.now - 1) line.now)
+      × (length text.now + 1 ≡ length line.now)) →
+      (unwrap_or left line).now ≡ bare line.now
+  bare_told None f =
+      bare_whole line.now
+      (λ e. false≢true (sym f ∙ ap (λ (bytes : List ℕ). pointwise eqb bytes (13 ∷ [])) (returned e)))
+  bare_told (Some text) (t, same, _) =
+      let found : get_or last 0 0 ≡ 13 =
+      ap (λ (bytes : List ℕ). get_or bytes 0 0) (same_text last (13 ∷ []) (sym t)) in
+      same
+      ∙ bare_less line.now
+      (ap (λ (k : ℕ). get_or line.now k 0) (omega arith)
+      ∙ sym (get_or-drop (length line.now - 1) line.now 0 0)
+      ∙ found)
 
 pub bare_take : (line : List ℕ) → take (length (bare line)) line ≡ bare line
 unfolding bare

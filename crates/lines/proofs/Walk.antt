@@ -1,13 +1,22 @@
--- How far a loop that goes from space to space has come in a line: each piece that is not empty is a number, and adds
--- its value to those passed. Assumes nothing.
-use mathlib.Core.Path.{◌≡◌, refl, sym, ap, ◌∙◌}
-use mathlib.Core.Bool.{Bool, true, false, ◌&&◌}
+-- How far a loop over the parts of a line has come: each part that is not empty is a number, and adds its value to
+-- those passed. Assumes nothing.
+use mathlib.Core.Path.{◌≡◌, refl, sym, ap, ap₂, subst, ◌∙◌}
+use mathlib.Core.Bool.{Bool, true, false, cond, ◌&&◌}
 use mathlib.Core.List.{List, [], ◌∷◌}
-use Prim.Native.Nat.{ℕ, suc, ◌+◌, ◌≤◌, ◌<◌}
+use Prim.Native.Nat.{ℕ, suc, ◌+◌, ◌-◌, ◌≤◌, ◌<◌}
 use native.Mathlib.Numerals.{add-one}
 use native.Mathlib.Omega.{arith}
-use lib.ListN.{length, get_or, drop, length-drop, drop_of_length-le}
-use lib.Seq.{drop-cons, drop-drop}
+use lib.ListN.{length, get_or, take, drop, length-drop, drop_of_length-le}
+use lib.Seq.{drop-cons}
+use lib.Dec.{eqb}
+use denote.Param.Members.{Mut}
+use denote.Ref.{Bor}
+use Rattle.std.specs.Fn.{CalledAt}
+use Rattle.std.specs.List.{slice_split, onto_first}
+use Rattle.std.specs.Slice.Iter.{split_rest, split_done, split_callee, split_steps}
+use Rattle.std.proofs.lemmas.Iterator.{YieldsList}
+use Rattle.std.proofs.lemmas.Iterator.Splits.{YieldsList-from_slice_split}
+use Rattle.lines.proofs.Placed.{rest_whole}
 use borrow.Author.Tests.{lt-ltb}
 use Rattle.counting.proofs.Bools.{and_left, not_both}
 use Rattle.lines.specs.Line.{read_on}
@@ -24,7 +33,7 @@ use Rattle.lines.specs.Read.{
   values,
   numbers_in,
 }
-use Rattle.lines.proofs.Pieces.{piece_within, piece_past, behind_past, behind_turn}
+use Rattle.lines.proofs.Pieces.{piece_past, behind_past}
 
 -- whether the texts that are not empty are numbers, and what they stand for, by the first of the texts
 are_turn : (text : List ℕ) (texts : List (List ℕ)) →
@@ -55,124 +64,110 @@ drop_next xs ys k x e =
     let at : get_or xs k 0 ∷ drop (suc k) xs ≡ x ∷ ys = sym (drop-cons xs k 0 l) ∙ e in
     (l, (ap (λ (zs : List ℕ). get_or zs 0 0) at, ap (λ (n : ℕ). drop n xs) (add-one k) ∙ ap (drop 1) at))
 
--- a loop that goes from space to space is at a space or at the end, and has passed so many numbers; what is left
--- decides whether all are numbers
-pub record Reached (text : List ℕ) (at count : ℕ) : Type 0 where
-  pub within : at ≤ length text
-  pub space : piece (drop at text) ≡ []
-  pub few : count ≤ at
+-- a line is split at its spaces
+pub split_is : (text : List ℕ) → slice_split (λ byte. eqb byte 32) text ≡ piece text ∷ behind text
+unfolding piece behind
+split_is [] = refl
+split_is (byte ∷ text) = go (eqb byte 32) (split_is text)
+  where
+    go : (b : Bool) → slice_split (λ byte. eqb byte 32) text ≡ piece text ∷ behind text →
+        cond b ([] ∷ slice_split (λ byte. eqb byte 32) text) (onto_first byte (slice_split (λ byte. eqb byte 32) text))
+        ≡ cond b [] (byte ∷ piece text) ∷ cond b (piece text ∷ behind text) (behind text)
+    go true e = ap (λ (texts : List (List ℕ)). [] ∷ texts) e
+    go false e = ap (onto_first byte) e
+
+-- so is the part of it behind its word
+abbrev pub parts : List ℕ → ℕ → List (List ℕ)
+parts text word = slice_split (λ byte. eqb byte 32) (drop word text)
+
+pub parts_are : (text : List ℕ) (word : ℕ) → word ≡ length (word_in text) → parts text word ≡ [] ∷ behind text
+unfolding word_in
+parts_are text word e =
+    ap (parts text) e
+    ∙ split_is (drop (length (piece text)) text)
+    ∙ ap₂ (λ (first : List ℕ) (texts : List (List ℕ)). first ∷ texts) (piece_past text) (behind_past text)
+
+-- a loop that goes from part to part has passed so many numbers; the parts that are left decide whether all are
+-- numbers
+pub record Reached (text : List ℕ) (texts : List (List ℕ)) (count : ℕ) : Type 0 where
   pub some : count ≤ length (numbers_in text)
-  pub left : drop count (numbers_in text) ≡ values (non_empty (behind (drop at text)))
-  pub good : are_numbers (said_in text) ≡ are_numbers (non_empty (behind (drop at text)))
+  pub left : drop count (numbers_in text) ≡ values (non_empty texts)
+  pub good : are_numbers (said_in text) ≡ are_numbers (non_empty texts)
 
-pub walk_begins : (text : List ℕ) (at : ℕ) → at ≡ length (word_in text) → Reached text at 0
-unfolding word_in said_in numbers_in
-walk_begins text at e =
-    let past : behind (drop at text) ≡ behind text = ap (λ (k : ℕ). behind (drop k text)) e ∙ behind_past text in
-    record {
-      within = omega (arith, piece_within text);
-      space = ap (λ (k : ℕ). piece (drop k text)) e ∙ piece_past text;
-      few = omega arith;
-      some = omega arith;
-      left = ap (λ (texts : List (List ℕ)). values (non_empty texts)) (sym past);
-      good = ap (λ (texts : List (List ℕ)). are_numbers (non_empty texts)) (sym past);
-    }
+pub walk_begins : (text : List ℕ) (word : ℕ) → word ≡ length (word_in text) → Reached text (parts text word) 0
+unfolding said_in numbers_in non_empty
+walk_begins text word e =
+    let same : non_empty (parts text word) ≡ non_empty (behind text) = ap non_empty (parts_are text word e) in
+    record { some = omega arith; left = ap values (sym same); good = ap are_numbers (sym same) }
 
--- the piece behind the space at a place
-abbrev pub part : List ℕ → ℕ → List ℕ
-part text at = piece (drop (at + 1) text)
+-- the next part of those that are left
+pub walk_next : (text : List ℕ) (texts : List (List ℕ)) (n count : ℕ) (part : List ℕ) →
+    (n < length texts) × (part ≡ get_or texts n part) → Reached text (drop n texts) count →
+    Reached text (part ∷ drop (n + 1) texts) count
+walk_next text texts n count part (l, same) r =
+    let here : drop n texts ≡ part ∷ drop (n + 1) texts =
+    drop-cons texts n part l
+    ∙ ap₂ (λ (x : List ℕ) (k : ℕ). x ∷ drop k texts) (sym same) (sym (add-one n)) in
+    subst (λ (ts : List (List ℕ)). Reached text ts count) here r
 
-module _ (text : List ℕ) (at count : ℕ) (r : Reached text at count) where
-  module _ (l : at < length text) where
-    walk_on : (next : ℕ) → next ≡ at + 1 + length (part text at) →
-        behind (drop at text) ≡ part text at ∷ behind (drop next text)
-    walk_on next e =
-        behind_turn text at l r.space
-        ∙ ap (λ (texts : List (List ℕ)). part text at ∷ texts)
-        (sym (behind_past (drop (at + 1) text))
-        ∙ ap behind (drop-drop (length (part text at)) (at + 1) text ∙ ap (λ (k : ℕ). drop k text) (sym e)))
+module _ {text part : List ℕ} {texts : List (List ℕ)} {count : ℕ} (r : Reached text (part ∷ texts) count) where
+  walk_good : are_numbers (said_in text) ≡ (is_small part && are_numbers (non_empty texts))
+  walk_good = r.good ∙ are_turn part texts
 
-    walk_good : (next : ℕ) → next ≡ at + 1 + length (part text at) →
-        are_numbers (said_in text) ≡ (is_small (part text at) && are_numbers (non_empty (behind (drop next text))))
-    walk_good next e =
-        r.good ∙ ap (λ (texts : List (List ℕ)). are_numbers (non_empty texts)) (walk_on next e)
-        ∙ are_turn (part text at) (behind (drop next text))
+  -- a part that is no number decides
+  pub walk_bad : is_small part ≡ false → are_numbers (said_in text) ≡ false
+  walk_bad f = walk_good ∙ not_both _ f
 
-    -- a piece that is no number decides
-    pub walk_bad : is_small (part text at) ≡ false → are_numbers (said_in text) ≡ false
-    walk_bad f = walk_good (at + 1 + length (part text at)) refl ∙ not_both _ f
+  pub walk_fine : are_numbers (said_in text) ≡ true → is_small part ≡ true
+  walk_fine t = and_left (is_small part) _ (sym walk_good ∙ t)
 
-    pub walk_fine : are_numbers (said_in text) ≡ true → is_small (part text at) ≡ true
-    walk_fine t = and_left (is_small (part text at)) _ (sym (walk_good (at + 1 + length (part text at)) refl) ∙ t)
+  module _ (small : is_small part ≡ true) where
+    walk_still : are_numbers (said_in text) ≡ are_numbers (non_empty texts)
+    walk_still = walk_good ∙ ap (λ (b : Bool). b && are_numbers (non_empty texts)) small
 
-    module _ (next : ℕ) (e : next ≡ at + 1 + length (part text at)) (t : is_small (part text at) ≡ true) where
-      walk_within : next ≤ length text
-      walk_within = omega (arith, piece_within (drop (at + 1) text), length-drop (at + 1) text)
+    -- two spaces stand side by side, or one at the end
+    pub walk_skips : length part ≡ 0 → Reached text texts count
+    walk_skips h = record { some = r.some; left = r.left ∙ values_none part texts h; good = walk_still }
 
-      walk_space : piece (drop next text) ≡ []
-      walk_space =
-          ap piece (ap (λ (k : ℕ). drop k text) e ∙ sym (drop-drop (length (part text at)) (at + 1) text))
-          ∙ piece_past (drop (at + 1) text)
+    -- a number
+    module _ (h : 0 < length part) where
+      passed : (count < length (numbers_in text))
+          × ((get_or (numbers_in text) count 0 ≡ read_on 0 part)
+          × (drop (count + 1) (numbers_in text) ≡ values (non_empty texts)))
+      passed =
+          drop_next (numbers_in text) (values (non_empty texts)) count (read_on 0 part)
+          (r.left ∙ values_some part texts h)
 
-      walk_left : drop count (numbers_in text) ≡ values (non_empty (part text at ∷ behind (drop next text)))
-      walk_left = r.left ∙ ap (λ (texts : List (List ℕ)). values (non_empty texts)) (walk_on next e)
+      pub walk_one : count < length (numbers_in text)
+      walk_one = passed.0
 
-      walk_still : are_numbers (said_in text) ≡ are_numbers (non_empty (behind (drop next text)))
-      walk_still = walk_good next e ∙ ap (λ (b : Bool). b && are_numbers (non_empty (behind (drop next text)))) t
+      pub walk_value : read_on 0 part ≡ get_or (numbers_in text) count 0
+      walk_value = sym passed.1.0
 
-      -- two spaces stand side by side, or one at the end
-      pub walk_skips : next ≤ at + 1 → Reached text next count
-      walk_skips h =
-          record {
-            within = walk_within;
-            space = walk_space;
-            few = omega (arith, r.few);
-            some = r.some;
-            left = walk_left ∙ values_none (part text at) (behind (drop next text)) (omega (arith, e, h));
-            good = walk_still;
-          }
+      pub walk_turn : Reached text texts (count + 1)
+      walk_turn = record { some = omega (arith, walk_one); left = passed.1.1; good = walk_still }
 
-      -- a number stands between
-      module _ (h : at + 1 < next) where
-        passed : (count < length (numbers_in text)) × ((get_or (numbers_in text) count 0 ≡ read_on 0 (part text at))
-            × (drop (count + 1) (numbers_in text) ≡ values (non_empty (behind (drop next text)))))
-        passed =
-            drop_next (numbers_in text) (values (non_empty (behind (drop next text)))) count (read_on 0 (part text at))
-            (walk_left ∙ values_some (part text at) (behind (drop next text)) (omega (arith, e, h)))
+-- at the end all are passed, and all are numbers
+module _ {text : List ℕ} {count : ℕ} (r : Reached text [] count) where
+  pub walk_all : count ≡ length (numbers_in text)
+  unfolding non_empty values
+  walk_all = omega (arith, r.some, length-drop count (numbers_in text), ap length r.left)
 
-        pub walk_one : count < length (numbers_in text)
-        walk_one = passed.0
+  pub walk_ends : are_numbers (said_in text) ≡ true
+  unfolding non_empty are_numbers
+  walk_ends = r.good
 
-        pub walk_value : get_or (numbers_in text) count 0 ≡ read_on 0 (part text at)
-        walk_value = passed.1.0
+pub walk_last : (text : List ℕ) (texts : List (List ℕ)) (n count : ℕ) → n ≡ length texts →
+    Reached text (drop n texts) count → Reached text [] count
+walk_last text texts n count e r =
+    subst (λ (ts : List (List ℕ)). Reached text ts count) (drop_of_length-le texts {i = n} (omega arith)) r
 
-        pub walk_turn : Reached text next (count + 1)
-        walk_turn =
-            record {
-              within = walk_within;
-              space = walk_space;
-              few = omega (arith, r.few, h);
-              some = omega (arith, walk_one);
-              left = passed.1.1;
-              good = walk_still;
-            }
-
-  -- at the end all are passed, and all are numbers
-  module _ (h : length text ≤ at) where
-    none : behind (drop at text) ≡ []
-    unfolding behind
-    none = ap behind (drop_of_length-le text {i = at} h)
-
-    pub walk_all : count ≡ length (numbers_in text)
-    unfolding non_empty values
-    walk_all =
-        omega (
-          arith,
-          r.some,
-          length-drop count (numbers_in text),
-          ap length (r.left ∙ ap (λ (texts : List (List ℕ)). values (non_empty texts)) none),
-        )
-
-    pub walk_ends : are_numbers (said_in text) ≡ true
-    unfolding non_empty are_numbers
-    walk_ends = r.good ∙ ap (λ (texts : List (List ℕ)). are_numbers (non_empty texts)) none
+-- the iterator over a line behind its word gives these parts
+pub split_gives : {F : Type 0} {s t : _} (g : Mut F (Bor ℕ × Unit {0}) Bool) {f : F} (line : List ℕ) (word : ℕ) →
+    t ≡ s → split_rest s ≡ take (length line - word) (drop word line) → split_done s ≡ false → split_callee s ≡ f →
+    ((x : ℕ) (b : Bool) (q : F) → CalledAt g f x b q → (q ≡ f) × (b ≡ eqb x 32)) →
+    YieldsList (split_steps g) (λ x. x.now) t (parts line word)
+split_gives g line word same rest done closure tests =
+    YieldsList-from_slice_split g (λ byte. eqb byte 32) (drop word line)
+    (ap split_rest same ∙ rest ∙ rest_whole line word) (ap split_done same ∙ done) (ap split_callee same ∙ closure)
+    tests

@@ -1,7 +1,8 @@
 // The lines of text: a word and numbers in decimal, written at the front of a lent slice, and read.
 #![tactic(auto)]
 
-ghost use Rattle.std.specs.Prelude.{◌≡◌, true, ◌&&◌, ◌+◌, ◌-◌, ◌*◌, ◌^◌, ◌≤◌, ◌++◌, ltb, min, length, take, drop};
+ghost use Rattle.std.specs.Prelude.{◌≡◌, true, false, ◌+◌, ◌≤◌, ◌++◌, ltb, min};
+ghost use Rattle.std.specs.Prelude.{length, take, drop, MatchOption};
 ghost use Rattle.lines.specs.Line.{
   decimal,
   field,
@@ -17,7 +18,6 @@ ghost use Rattle.lines.specs.Line.{
 ghost use Rattle.lines.specs.Read.{
   bare,
   piece,
-  is_digit,
   is_small,
   word_in,
   is_line,
@@ -25,8 +25,11 @@ ghost use Rattle.lines.specs.Read.{
   read_reply,
   read_writes,
 };
+ghost use Rattle.lines.specs.Inside.{with_digit, takes};
 
 // The reply of a line: the refusal's number, or 0 with the number of bytes written.
+// Stays: a number and no Result, since docs/SCOPE.md's replies carry 0 where nothing is refused; a type beside
+// `runfile::Wrote`, since docs/SCOPE.md names both and neither crate lies above the other (crates.txt).
 #[derive(Clone, Copy)]
 pub struct Written {
     pub refusal: u8,
@@ -38,21 +41,20 @@ fn numbers_exceed(numbers: &[u64], room: usize) -> bool
     ensures { result ≡ ltb room (length (fields numbers.now (length numbers.now))) }
 {
     let mut left = room;
-    let mut i: usize = 0;
-    while i < numbers.len() {
+    for number in numbers {
         let mut digits = [0u8; 20];
-        let more = 1 + io::decimal(numbers[i], &mut digits);
+        let more = 1 + io::decimal(*number, &mut digits);
         if left < more {
             return true;
         }
         left -= more;
-        i += 1;
     }
     false
 }
 
 // Whether the line is longer than the room. A number takes at most 21 bytes, so the numbers are measured only where
 // the room is scant.
+// Stays: a word and the numbers one by one, here and below, since docs/SCOPE.md names `lines::put_line` so.
 fn too_short(word: &[u8], numbers: &[u64], room: usize) -> bool
     ensures { result ≡ too_short word.now numbers.now room }
 {
@@ -68,18 +70,22 @@ fn too_short(word: &[u8], numbers: &[u64], room: usize) -> bool
 
 // Writes the digits of n at a place of the slice, and gives the place behind them. Most numbers have one digit or two,
 // which are written at once.
+// Stays: a slice and a place beside it, here, in `put_number` and in `put_numbers`. Where each writes to the front of
+// what is lent, showing a file of 13 boxes takes 2,087,874 instructions, and 1,938,302 so.
+// Stays: one digit and two by hand, for which docs/DECISIONS.md, Code, has the figures: with the older kit a line took
+// 191 instructions so, and 341 by `io::decimal` alone. `as u8`, as `try_from` would have a failure nothing reaches.
 fn put_digits(out: &mut [u8], at: usize, n: u64) -> usize
     requires { at + length (decimal n) ≤ length out.old }
     ensures value { result ≡ at + length (decimal n) }
     ensures out_after { out.new ≡ placed out.old at (decimal n) }
 {
     if n < 10 {
-        out[at] = 48 + n as u8;
+        out[at] = b'0' + n as u8;
         return at + 1;
     }
     if n < 100 {
-        out[at] = 48 + (n / 10) as u8;
-        out[at + 1] = 48 + (n % 10) as u8;
+        out[at] = b'0' + (n / 10) as u8;
+        out[at + 1] = b'0' + (n % 10) as u8;
         return at + 2;
     }
     let mut digits = [0u8; 20];
@@ -115,15 +121,14 @@ fn put_numbers(out: &mut [u8], at: usize, numbers: &[u64]) -> usize
         placed out.old at (fields numbers.now (length numbers.now)) }
 {
     let mut end = at;
-    let mut i: usize = 0;
-    while i < numbers.len() {
-        end = put_number(out, end, numbers[i]);
-        i += 1;
+    for number in numbers {
+        end = put_number(out, end, *number);
     }
     end
 }
 
 // Writes a line: the word, for each number one space and its decimal digits, and a newline. Refusal 10.
+// Stays: 10 as a number, here and in `read_line`, since `sizes`, which has the enum, does not lie below (crates.txt).
 pub fn write_line(out: &mut [u8], word: &[u8], numbers: &[u64]) -> Written
     ensures value { result ≡ line_reply word.now numbers.now (length out.old) }
     ensures out_after { out.new ≡ line_writes word.now numbers.now out.old }
@@ -142,6 +147,7 @@ pub fn write_line(out: &mut [u8], word: &[u8], numbers: &[u64]) -> Written
 }
 
 // Puts a line at a place that lies within the text.
+// Stays: a text and a place beside it, since docs/SCOPE.md names the call `lines::put_line(text, at, word, numbers)`.
 fn put_within(text: &mut [u8], at: usize, word: &[u8], numbers: &[u64]) -> usize
     requires { at ≤ length text.old }
     ensures value { result ≡ put_reply word.now numbers.now (length text.old) at }
@@ -166,6 +172,7 @@ pub fn put_line(text: &mut [u8], at: usize, word: &[u8], numbers: &[u64]) -> usi
 
 // The reply of a line that is read: the refusal's number, or 0 with the length of the word and how many numbers there
 // are.
+// Stays: a number and no Result, since docs/SCOPE.md's replies carry 0 where nothing is refused.
 #[derive(Clone, Copy)]
 pub struct Words {
     pub refusal: u8,
@@ -173,140 +180,67 @@ pub struct Words {
     pub count: usize,
 }
 
-// A number with one more digit, where it is a digit and the number stays below 2⁶⁴.
-#[derive(Clone, Copy)]
-struct Longer {
-    good: bool,
-    value: u64,
-}
+// The reply where there is no word.
+const NO_WORDS: Words = Words {
+    refusal: 0,
+    word: 0,
+    count: 0,
+};
 
-// What stands before the next space or the end, read as a number: where it ends, and its value.
-#[derive(Clone, Copy)]
-struct Piece {
-    good: bool,
-    next: usize,
-    value: u64,
-}
-
-// How many numbers a line has, where it is a word and numbers.
-#[derive(Clone, Copy)]
-struct Found {
-    good: bool,
-    count: usize,
-}
-
-// How many bytes are left of the line without a carriage return at its very end.
-fn bare_size(line: &[u8]) -> usize
-    ensures upper_bound { result ≤ length line.now }
-    ensures line_value { take result line.now ≡ bare line.now }
+// The line without a carriage return at its very end.
+fn bare(line: &[u8]) -> &[u8]
+    ensures { result.now ≡ bare line.now }
 {
-    let size = line.len();
-    if size == 0 {
-        return 0;
-    }
-    if line[size - 1] == b'\r' {
-        return size - 1;
-    }
-    size
+    line.strip_suffix(b"\r").unwrap_or(line)
 }
 
-// Puts one more digit behind a number.
-fn add_digit(value: u64, byte: u8) -> Longer
-    ensures good_value { result.good ≡ (is_digit byte && ltb (value * 10 + (byte - 48)) (2 ^ 64)) }
-    ensures value_value { result.good ≡ true → result.value ≡ value * 10 + (byte - 48) }
+// The number with one more digit behind it, where the byte is a digit and the number stays below 2⁶⁴.
+// Stays: a reader of digits beside `why::read_number`, which takes 20 of them at most and gives 256 for all above 255.
+fn add_digit(value: u64, byte: u8) -> Option<u64>
+    ensures { MatchOption result (takes value byte ≡ false)
+        (λ more. (takes value byte ≡ true) × (more ≡ with_digit value byte)) }
 {
-    if byte < b'0' {
-        return Longer {
-            good: false,
-            value: 0,
-        };
+    let is_digit = byte.is_ascii_digit();
+    if !is_digit {
+        return None;
     }
-    if b'9' < byte {
-        return Longer {
-            good: false,
-            value: 0,
-        };
-    }
-    let digit = (byte - b'0') as u64;
-    if (18446744073709551615 - digit) / 10 < value {
-        return Longer {
-            good: false,
-            value: 0,
-        };
-    }
-    Longer {
-        good: true,
-        value: value * 10 + digit,
-    }
+    value.checked_mul(10)?.checked_add(u64::from(byte - b'0'))
 }
 
-// Reads the digits from a place on, up to the next space or the end. None at all are read as 0.
-fn read_piece(line: &[u8], from: usize) -> Piece
-    requires { from ≤ length line.now }
-    ensures good_value { result.good ≡ is_small (piece (drop from line.now)) }
-    ensures next_value { result.good ≡ true → result.next ≡ from + length (piece (drop from line.now)) }
-    ensures value_value { result.good ≡ true → result.value ≡ read_on 0 (piece (drop from line.now)) }
+// The number that the digits stand for, where it is below 2⁶⁴. None at all are read as 0.
+fn read_digits(text: &[u8]) -> Option<u64>
+    ensures { MatchOption result (is_small text.now ≡ false)
+        (λ value. (is_small text.now ≡ true) × (value ≡ read_on 0 text.now)) }
 {
     let mut value: u64 = 0;
-    let mut i = from;
-    while i < line.len() {
-        let byte = line[i];
-        if byte == b' ' {
-            return Piece {
-                good: true,
-                next: i,
-                value,
-            };
-        }
-        let more = add_digit(value, byte);
-        if !more.good {
-            return Piece {
-                good: false,
-                next: 0,
-                value: 0,
-            };
-        }
-        value = more.value;
-        i += 1;
+    for byte in text {
+        value = add_digit(value, *byte)?;
     }
-    Piece {
-        good: true,
-        next: i,
-        value,
-    }
+    Some(value)
 }
 
-// Whether a line is a word and numbers, and how many numbers it has. `at` is a space, or the end of the line.
-fn find_numbers(line: &[u8], word: usize) -> Found
+// How many numbers a line has, where it is a word and numbers. No bytes stand between the word and the first space.
+fn find_numbers(line: &[u8], word: usize) -> Option<usize>
     requires { word ≡ length (word_in line.now) }
-    ensures good_value { result.good ≡ is_line line.now }
-    ensures count_value { result.good ≡ true → result.count ≡ length (numbers_in line.now) }
+    ensures { MatchOption result (is_line line.now ≡ false)
+        (λ count. (is_line line.now ≡ true) × (count ≡ length (numbers_in line.now))) }
 {
     if word == 0 {
-        return Found {
-            good: false,
-            count: 0,
-        };
+        return None;
     }
     let mut count: usize = 0;
-    let mut at = word;
-    while at < line.len() {
-        let part = read_piece(line, at + 1);
-        if !part.good {
-            return Found {
-                good: false,
-                count: 0,
-            };
-        }
-        if at + 1 < part.next {
+    for part in line[word..].split(|byte| *byte == b' ') {
+        read_digits(part)?;
+        if !part.is_empty() {
             count += 1;
         }
-        at = part.next;
     }
-    Found { good: true, count }
+    Some(count)
 }
 
 // Writes the numbers of a line at the front of the slice.
+// Stays: the walk of `find_numbers` again, since `read_writes`, which `read_line` promises, leaves the slice as it was
+// where a part is no number.
 fn take_numbers(line: &[u8], word: usize, numbers: &mut [u64])
     requires word_value { word ≡ length (word_in line.now) }
     requires line_value { is_line line.now ≡ true }
@@ -314,14 +248,14 @@ fn take_numbers(line: &[u8], word: usize, numbers: &mut [u64])
     ensures { numbers.new ≡ placed numbers.old 0 (numbers_in line.now) }
 {
     let mut count: usize = 0;
-    let mut at = word;
-    while at < line.len() {
-        let part = read_piece(line, at + 1);
-        if at + 1 < part.next {
-            numbers[count] = part.value;
+    for part in line[word..].split(|byte| *byte == b' ') {
+        let Some(value) = read_digits(part) else {
+            unreachable!()
+        };
+        if !part.is_empty() {
+            numbers[count] = value;
             count += 1;
         }
-        at = part.next;
     }
 }
 
@@ -329,14 +263,9 @@ fn take_numbers(line: &[u8], word: usize, numbers: &mut [u64])
 fn word_size(line: &[u8]) -> usize
     ensures { result ≡ length (word_in line.now) }
 {
-    let mut at: usize = 0;
-    while at < line.len() {
-        if line[at] == b' ' {
-            return at;
-        }
-        at += 1;
-    }
-    at
+    line.iter()
+        .position(|byte| *byte == b' ')
+        .unwrap_or(line.len())
 }
 
 // Reads a line that is given without its newline: a word, and numbers behind spaces, which are written at the front of
@@ -345,25 +274,18 @@ pub fn read_line(line: &[u8], numbers: &mut [u64]) -> Words
     ensures value { result ≡ read_reply line.now (length numbers.old) }
     ensures numbers_after { numbers.new ≡ read_writes line.now numbers.old }
 {
-    let end = bare_size(line);
-    let word = word_size(&line[..end]);
-    let found = find_numbers(&line[..end], word);
-    if !found.good {
-        return Words {
-            refusal: 0,
-            word: 0,
-            count: 0,
-        };
-    }
-    let count = found.count;
+    let text = bare(line);
+    let word = word_size(text);
+    let Some(count) = find_numbers(text, word) else {
+        return NO_WORDS;
+    };
     if numbers.len() < count {
         return Words {
             refusal: 10,
-            word: 0,
-            count: 0,
+            ..NO_WORDS
         };
     }
-    take_numbers(&line[..end], word, numbers);
+    take_numbers(text, word, numbers);
     Words {
         refusal: 0,
         word,

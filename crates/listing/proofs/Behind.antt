@@ -4,9 +4,14 @@ use mathlib.Core.Path.{◌≡◌, ◌∙◌}
 use Prim.Native.Nat.{ℕ, ◌≤◌}
 use native.Mathlib.Nat.{mul-le-mul}
 use native.Mathlib.Omega.{arith}
+use Rattle.sizes.specs.Sizes.{table_rows, by_n}
 use Rattle.sizes.proofs.Laws.{inside, by_n_inside, table_le}
 use Rattle.runfile.specs.File.{heading_bytes}
 use Rattle.listing.specs.File.{table_bytes, table_begins, begins_reply}
+
+-- how many rows a table has, as a call gives it
+pub rows_inside : (n r : ℕ) → r ≡ by_n table_rows n → 1 ≤ n → n ≤ 13 → r ≡ table_rows n
+rows_inside n r e low high = e ∙ by_n_inside table_rows n (inside n low high)
 
 pub begins_inside : (n m r : ℕ) → r ≡ begins_reply n m → 1 ≤ n → n ≤ 13 → r ≡ table_begins n m
 unfolding begins_reply

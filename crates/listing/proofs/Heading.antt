@@ -12,6 +12,8 @@ use Rattle.counting.proofs.Bools.{cond_true, cond_false}
 use Rattle.counting.proofs.Build.{front_take}
 use Rattle.sizes.specs.Sizes.{Startable}
 use Rattle.sizes.proofs.Laws.{inside_low, inside_high}
+use Rattle.std.specs.Prelude.{Result, Ok, Err}
+use Rattle.run.specs.declared.Run.{Run}
 use Rattle.run.specs.declared.Next.{Next}
 use Rattle.run.specs.State.{start_refusal, start_run, start_reply, zeros, after}
 use Rattle.run.proofs.Accepted.{start_accepted_is}
@@ -27,6 +29,7 @@ use Rattle.runfile.proofs.Laws.{
   heading_tolerates,
   heading_startable,
 }
+use Rattle.listing.specs.Inside.{LeadsTo}
 use Rattle.listing.specs.File.{or_else, heading, rows_of, reply_after, state_after, refused_start}
 
 -- the first of two refusals
@@ -45,6 +48,11 @@ none_refused a b h = go (eqb a 0) refl
     go : (t : Bool) → eqb a 0 ≡ t → (a ≡ 0) × (b ≡ 0)
     go true e = (eqb-true a 0 e, rw e at h)
     go false e = absurd (eqb-false a 0 e (rw e at h))
+
+-- a step that leads where another does
+pub leads_same : {a b : ℕ} {s t : Run} → a ≡ b → s ≡ t → (r : Result Run ℕ) → LeadsTo a s r → LeadsTo b t r
+leads_same same to (Ok r) p = (sym same ∙ p.0, p.1 ∙ to)
+leads_same same to (Err number) p = (p.0 ∙ same, p.1)
 
 -- thirteen places, which the heading's rows are read to
 abbrev pub thirteen : List ℕ

@@ -14,6 +14,7 @@ use lib.ListN.{length}
 use borrow.Author.Tests.{eq-eqb, ne_eqb, lt-ltb, le-ltb, ltb-true, ltb-false}
 use Rattle.counting.proofs.Bools.{both, cond_true, cond_false, and_false_right, either}
 use Rattle.counting.proofs.Count.{at_or_below}
+use Rattle.std.specs.Prelude.{Ok, Err}
 use Rattle.run.specs.declared.Run.{Run}
 use Rattle.run.specs.declared.Next.{Next}
 use Rattle.run.specs.Iteration.{next_run}
@@ -33,18 +34,8 @@ use Rattle.listing.specs.File.{
   due,
   goes_on,
 }
-use Rattle.listing.specs.Inside.{Underway, Advanced, Started, with_parts}
-use Rattle.listing.specs.Listing.{
-  ended_by,
-  passed,
-  box_line,
-  box_lines,
-  iteration_lines,
-  done_of,
-  refused_later,
-  ends_with,
-  outcome_of,
-}
+use Rattle.listing.specs.Inside.{Underway, Advanced, Started, Ended}
+use Rattle.listing.specs.Listing.{passed, box_lines, iteration_lines, done_of, refused_later, ends_with}
 use Rattle.listing.proofs.Heading.{
   first_passed,
   none_refused,
@@ -145,86 +136,89 @@ module _ (bytes : List ℕ) (s : Run) (g : Going bytes s) where
   next_reply =
       ap₂ (λ (q : Run) (n : ℕ). iterate_reply q (table_of n bytes s.done)) g.is g.same_n
 
-  module _ (r : Next) (a : Advanced s bytes r) where
-    pub next_refused : r.refusal ≡ refused_at bytes s.done
-    unfolding refused_at
-    next_refused =
-        a.number
-        ∙ ap₂ (λ (n : ℕ) (q : Next). refused_table n bytes s.done q.refusal) g.same_n next_reply
+  refused_here : refused_table s.n bytes s.done (iterate_reply s (table_of s.n bytes s.done)).refusal
+      ≡ refused_at bytes s.done
+  unfolding refused_at
+  refused_here = ap₂ (λ (n : ℕ) (q : Next). refused_table n bytes s.done q.refusal) g.same_n next_reply
 
-    module _ (z : r.refusal ≡ 0) where
-      next_none : (table_refusal s.n (bytes_of s.n bytes s.done) 4563 ≡ 0)
-          × ((iterate_reply s (table_of s.n bytes s.done)).refusal ≡ 0)
-      unfolding refused_table
-      next_none = none_refused _ _ (sym a.number ∙ z)
+  -- a table that leads on
+  module _ (r : Run) (a : Advanced s bytes (Ok r)) where
+    next_none : (table_refusal s.n (bytes_of s.n bytes s.done) 4563 ≡ 0)
+        × ((iterate_reply s (table_of s.n bytes s.done)).refusal ≡ 0)
+    unfolding refused_table
+    next_none = none_refused _ _ a.0
 
-      pub next_kept : (r.run.n ≡ s.n) × (r.run.t ≡ s.t) × (r.run.done ≡ s.done + 1)
-      next_kept =
-          subst (λ (q : Run). (q.n ≡ s.n) × (q.t ≡ s.t) × (q.done ≡ s.done + 1)) (sym (a.state z))
-          (iterate_next s (table_of s.n bytes s.done) next_none.1)
+    pub next_kept : (r.n ≡ s.n) × (r.t ≡ s.t) × (r.done ≡ s.done + 1)
+    next_kept =
+        subst (λ (q : Run). (q.n ≡ s.n) × (q.t ≡ s.t) × (q.done ≡ s.done + 1)) (sym a.1)
+        (iterate_next s (table_of s.n bytes s.done) next_none.1)
 
-      -- the table was whole
-      next_whole : table_bytes s.n ≤ length bytes - table_begins s.n s.done
-      next_whole =
-          ⊎_elim
-          (λ t.
-          absurd
-          (omega (
-            arith,
-            next_none.0,
-            table_short s.n bytes s.done going_low going_high
-                (ltb-true (length bytes - table_begins s.n s.done) _ t),
-          )))
-          (λ f. ltb-false (length bytes - table_begins s.n s.done) (table_bytes s.n) f)
-          (either (ltb (length bytes - table_begins s.n s.done) (table_bytes s.n)))
+    -- the table was whole
+    next_whole : table_bytes s.n ≤ length bytes - table_begins s.n s.done
+    next_whole =
+        ⊎_elim
+        (λ t.
+        absurd
+        (omega (
+          arith,
+          next_none.0,
+          table_short s.n bytes s.done going_low going_high
+              (ltb-true (length bytes - table_begins s.n s.done) _ t),
+        )))
+        (λ f. ltb-false (length bytes - table_begins s.n s.done) (table_bytes s.n) f)
+        (either (ltb (length bytes - table_begins s.n s.done) (table_bytes s.n)))
 
-      pub next_done : r.run.done ≡ suc s.done
-      next_done = next_kept.2 ∙ add-one s.done
+    next_done : r.done ≡ suc s.done
+    next_done = next_kept.2 ∙ add-one s.done
 
-      pub next_state : r.run ≡ state_after bytes (suc s.done)
-      unfolding state_after
-      next_state = a.state z ∙ ap (λ (q : Next). q.run) next_reply
+    next_state : r ≡ state_after bytes (suc s.done)
+    unfolding state_after
+    next_state = a.1 ∙ ap (λ (q : Next). q.run) next_reply
 
-      next_behind : table_begins s.n (suc s.done) ≤ length bytes
-      unfolding table_begins
-      next_behind = omega (arith, g.behind, next_whole, suc-mul s.done (table_bytes s.n))
+    next_behind : table_begins s.n (suc s.done) ≤ length bytes
+    unfolding table_begins
+    next_behind = omega (arith, g.behind, next_whole, suc-mul s.done (table_bytes s.n))
 
-      pub going_on : s.done ≤ s.t → Going bytes r.run
-      going_on l =
-          record {
-            ok = g.ok;
-            is = next_state ∙ ap (state_after bytes) (sym next_done);
-            good =
-                ap (passed (refused_at bytes)) next_done
-                ∙ passed_turn (refused_at bytes) s.done g.good (sym next_refused ∙ z)
-                ∙ sym next_done;
-            same_n = next_kept.0 ∙ g.same_n;
-            same_t = next_kept.1 ∙ g.same_t;
-            few = omega (arith, next_kept);
-            behind = rw (next_kept.0, next_done) next_behind;
-          }
+    pub going_on : s.done ≤ s.t → Going bytes r
+    going_on l =
+        record {
+          ok = g.ok;
+          is = next_state ∙ ap (state_after bytes) (sym next_done);
+          good =
+              ap (passed (refused_at bytes)) next_done
+              ∙ passed_turn (refused_at bytes) s.done g.good (sym refused_here ∙ a.0)
+              ∙ sym next_done;
+          same_n = next_kept.0 ∙ g.same_n;
+          same_t = next_kept.1 ∙ g.same_t;
+          few = omega (arith, next_kept);
+          behind = rw (next_kept.0, next_done) next_behind;
+        }
+
+    -- the lines of one more iteration
+    pub lines_turn : iteration_lines bytes r.done ≡ iteration_lines bytes s.done ++ box_lines r r.n
+    unfolding iteration_lines
+    lines_turn =
+        ap (iteration_lines bytes) next_done
+        ∙ ap (λ (q : Run). iteration_lines bytes s.done ++ box_lines q q.n) (sym next_state)
 
   -- a table that is refused is where the listing ends
-  module _ (l : s.done ≤ s.t) (refusal : ℕ) (e : refusal ≡ refused_at bytes s.done) (h : refusal ≡ 0 → ⊥) where
-    stops : done_of bytes ≡ s.done
+  module _ (l : s.done ≤ s.t) (refusal : ℕ) (a : Advanced s bytes (Err refusal)) where
+    pub stopped_done : done_of bytes ≡ s.done
     unfolding done_of due
-    stops =
-        passed_stops (refused_at bytes) s.done ((heading bytes).t + 1) g.good (λ z. h (e ∙ z))
+    stopped_done =
+        passed_stops (refused_at bytes) s.done ((heading bytes).t + 1) g.good
+        (λ z. a.1 (a.0 ∙ refused_here ∙ z))
         (omega (arith, g.same_t))
 
     later : refused_later bytes ≡ refusal
     unfolding refused_later due
     later =
-        let before : done_of bytes < (heading bytes).t + 1 = omega (arith, stops, g.same_t) in
-        cond_true _ _ (lt-ltb _ _ before) ∙ ap (refused_at bytes) stops ∙ sym e
+        let before : done_of bytes < (heading bytes).t + 1 = omega (arith, stopped_done, g.same_t) in
+        cond_true _ _ (lt-ltb _ _ before) ∙ ap (refused_at bytes) stopped_done ∙ sym (a.0 ∙ refused_here)
 
-    pub stopped_done : done_of bytes ≡ s.done
-    stopped_done = stops
-
-    pub stopped_outcome : ended_by refusal s ≡ outcome_of bytes
-    unfolding outcome_of ends_with
-    stopped_outcome =
-        ap₂ ended_by (sym (first_passed _ _ g.ok ∙ later)) (g.is ∙ ap (state_after bytes) (sym stops))
+    pub stopped_ends : Ended bytes (Err refusal)
+    unfolding ends_with
+    stopped_ends = (sym (first_passed _ _ g.ok ∙ later), a.1)
 
   -- and so is the end of the last table
   module _ (l : s.t < s.done) where
@@ -236,25 +230,15 @@ module _ (bytes : List ℕ) (s : Run) (g : Going bytes s) where
     unfolding done_of
     finished_done = ap (passed (refused_at bytes)) (sym all_due) ∙ g.good
 
-    pub finished_outcome : ended_by (cond (ltb (table_begins s.n s.done) (length bytes)) 8 0) s ≡ outcome_of bytes
-    unfolding outcome_of ends_with refused_later goes_on
-    finished_outcome =
+    -- where nothing is behind it but what the file goes on with
+    pub finished_ends : cond (ltb (table_begins s.n s.done) (length bytes)) 8 0 ≡ ends_with bytes
+    unfolding ends_with refused_later goes_on
+    finished_ends =
         let none = le-ltb (done_of bytes) (due bytes) (omega (arith, finished_done, all_due)) in
-        let number =
-        first_passed (refused_start bytes) (refused_later bytes) g.ok
+        sym
+        (first_passed (refused_start bytes) (refused_later bytes) g.ok
         ∙ cond_false (refused_at bytes (done_of bytes)) (cond (goes_on bytes) 8 0) none
-        ∙ ap₂ (λ (n k : ℕ). cond (ltb (table_begins n k) (length bytes)) 8 0) (sym g.same_n) (sym all_due) in
-        ap₂ ended_by (sym number) (g.is ∙ ap (state_after bytes) (sym finished_done))
+        ∙ ap₂ (λ (n k : ℕ). cond (ltb (table_begins n k) (length bytes)) 8 0) (sym g.same_n) (sym all_due))
 
--- the lines of a state's boxes go by these parts alone
-pub lines_by : (s : Run) (k : ℕ) → box_lines (with_parts s.faulty s.done s.rows s.lists) k ≡ box_lines s k
-unfolding box_lines box_line with_parts
-lines_by s zero = refl
-lines_by s (suc k) = ap (λ (lines : List ℕ). lines ++ box_line s k) (lines_by s k)
-
--- the lines of one more iteration
-pub lines_turn : (bytes : List ℕ) (s r : Run) → r.done ≡ suc s.done → r ≡ state_after bytes (suc s.done) →
-    iteration_lines bytes r.done ≡ iteration_lines bytes s.done ++ box_lines r r.n
-unfolding iteration_lines
-lines_turn bytes s r d e =
-    ap (iteration_lines bytes) d ∙ ap (λ (q : Run). iteration_lines bytes s.done ++ box_lines q q.n) (sym e)
+    pub finished_state : s ≡ state_after bytes (done_of bytes)
+    finished_state = g.is ∙ ap (state_after bytes) (sym finished_done)

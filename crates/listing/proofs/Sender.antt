@@ -65,15 +65,6 @@ module _ {n : ℕ} (few : n ≤ 13) (from count : ℕ) (bytes table last : List 
 pub keeps_trans : {bytes a b c : List ℕ} → Keeps bytes a b → Keeps bytes b c → Keeps bytes a c
 keeps_trans x y = record { long = y.long ∙ x.long; held = λ p h. y.held p (x.held p h) }
 
-pub taken_kept : {n sender : ℕ} {bytes a b : List ℕ} → Keeps bytes a b → Taken n bytes a sender →
-    Taken n bytes b sender
-taken_kept k t =
-    record {
-      step1 = λ r hr. k.held _ (t.step1 r hr);
-      step2 = λ r l hr hl. k.held _ (t.step2 r l hr hl);
-      step3 = λ r l hr hl. k.held _ (t.step3 r l hr hl);
-    }
-
 -- the three parts of a sender, read one after the other
 module _ {n sender : ℕ} (few : n ≤ 13) (l : sender < n) (bytes table one two last : List ℕ) (whole : length bytes
     ≡ table_bytes n)

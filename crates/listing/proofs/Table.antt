@@ -13,6 +13,7 @@ use Rattle.counting.proofs.Build.{length_build}
 use Rattle.counting.proofs.Refuse.{refused, passed}
 use Rattle.sizes.specs.Sizes.{table_rows}
 use Rattle.sizes.proofs.Laws.{inside, table_le}
+use Rattle.std.specs.Prelude.{Result, Err}
 use Rattle.run.specs.declared.Run.{Run}
 use Rattle.run.specs.declared.Next.{Next}
 use Rattle.run.specs.State.{iterate_reply}
@@ -21,8 +22,8 @@ use Rattle.runfile.specs.File.{table_row}
 use Rattle.runfile.specs.Reply.{table_tests, table_refusal}
 use Rattle.runfile.proofs.Laws.{table_passes}
 use Rattle.listing.specs.File.{table_bytes, table_begins, bytes_of, table_of, refused_table}
-use Rattle.listing.specs.Inside.{TakenTo, Underway, Advanced}
-use Rattle.listing.proofs.Heading.{first_refused, first_passed}
+use Rattle.listing.specs.Inside.{TakenTo, Underway, LeadsTo, Advanced}
+use Rattle.listing.proofs.Heading.{first_refused, first_passed, leads_same}
 use Rattle.listing.proofs.Sender.{taken_same}
 
 module _ (n : ℕ) (bytes : List ℕ) (m : ℕ) (low : 1 ≤ n) (high : n ≤ 13) where
@@ -50,16 +51,11 @@ module _ (n : ℕ) (bytes : List ℕ) (m : ℕ) (low : 1 ≤ n) (high : n ≤ 13
       (record { inside = inside n low high; exact = table_long h; enough = table_le high })
 
 module _ (s : Run) (bytes : List ℕ) (u : Underway s bytes) where
-  pub cut_short : length bytes - table_begins s.n s.done < table_bytes s.n →
-      Advanced s bytes (record { refusal = 8; run = s })
+  pub cut_short : length bytes - table_begins s.n s.done < table_bytes s.n → Advanced s bytes (Err 8)
   unfolding refused_table
   cut_short h =
       let e = table_short s.n bytes s.done u.low u.high h in
-      record {
-        number = sym (first_refused _ _ (λ z. absurd (omega (arith, e, z)))
-            ∙ e);
-        state = λ z. absurd (omega arith);
-      }
+      (sym (first_refused _ _ (λ z. absurd (omega (arith, e, z))) ∙ e), λ z. absurd (omega (arith, z)))
 
   -- the rows of the faulty senders, taken from the bytes of the table, lead to the reply of the table
   module _ (rows from : ℕ) (part table : List ℕ) (er : rows ≡ table_rows s.n) (ef : from
@@ -90,14 +86,13 @@ module _ (s : Run) (bytes : List ℕ) (u : Underway s bytes) where
         (subst (λ (p : List ℕ). TakenTo s.n s.faulty p table s.n) same_part t))
         same_length
 
-    pub moved_on : (r : Next) → r ≡ iterate_reply s (take rows table) → Advanced s bytes r
+    pub moved_on : (reply : Next) → reply ≡ iterate_reply s (take rows table) → (r : Result Run ℕ) →
+        LeadsTo reply.refusal reply.run r → Advanced s bytes r
     unfolding refused_table
-    moved_on r e =
-        let is : r ≡ iterate_reply s (table_of s.n bytes s.done) =
+    moved_on reply e r leads =
+        let is : reply ≡ iterate_reply s (table_of s.n bytes s.done) =
         e ∙ ap (λ (k : ℕ). iterate_reply s (take k table)) er ∙ sym blind in
-        record {
-          number =
-              ap (λ (q : Next). q.refusal) is
-              ∙ sym (first_passed _ _ (table_good s.n bytes s.done u.low u.high enough));
-          state = λ z. ap (λ (q : Next). q.run) is;
-        }
+        leads_same
+        (ap (λ (q : Next). q.refusal) is
+        ∙ sym (first_passed _ _ (table_good s.n bytes s.done u.low u.high enough)))
+        (ap (λ (q : Next). q.run) is) r leads

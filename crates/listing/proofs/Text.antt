@@ -2,16 +2,17 @@
 -- a line can be by what its numbers can be.
 -- Assumes nothing.
 use mathlib.Core.Path.{◌≡◌, sym, ap, ◌∙◌}
-use mathlib.Core.List.{List, [], ◌∷◌, ◌++◌}
+use mathlib.Core.List.{List, [], ◌∷◌, ◌++◌, append_assoc}
 use Prim.Native.Nat.{ℕ, ◌+◌, ◌^◌, ◌≤◌, ◌<◌}
-use native.Mathlib.Nat.{add-zero}
+use native.Mathlib.Nat.{add-zero, le_refl}
 use native.Mathlib.Omega.{arith}
-use lib.ListN.{length, length-append}
+use lib.ListN.{length, take, drop, length-append}
+use lib.Seq.{length-take-le, take_at}
 use Rattle.counting.specs.Count.{sum}
-use Rattle.lines.specs.Line.{decimal, line_of, put_reply, put_writes}
+use Rattle.lines.specs.Line.{decimal, line_of, placed, put_reply, put_writes}
 use Rattle.lines.proofs.Decimal.{decimal_most}
 use Rattle.lines.proofs.Lines.{line_size}
-use Rattle.lines.proofs.Placed.{placed_none, placed_length, placed_then}
+use Rattle.lines.proofs.Placed.{placed_none, placed_then}
 use Rattle.lines.proofs.Put.{put_size, put_placed}
 use Rattle.listing.specs.Inside.{Put}
 use Rattle.listing.specs.Listing.{run_word, at_word, sent_word, refused_word, run_line, at_line}
@@ -44,8 +45,34 @@ put_then {xs} {ys} {zs} {s} {t} {at} {mid} {end} p q fits =
           ∙ placed_then xs ys at s t mid p.stands p.ends (omega (arith, p.ends, q.ends, whole));
     }
 
-pub put_long : {xs ys s : List ℕ} {at end : ℕ} → Put xs ys at end s → end ≤ length xs → length ys ≡ length xs
-put_long {xs} {ys} {s} {at} {end} p fits = ap length p.stands ∙ placed_length xs at s (omega (arith, p.ends))
+-- what stands in the slice up to the place behind
+pub put_front : {xs ys s : List ℕ} {at end : ℕ} → Put xs ys at end s → at ≤ length xs →
+    take end ys ≡ take at xs ++ s
+unfolding placed
+put_front {xs} {ys} {s} {at} {end} p short =
+    let rest = drop (at + length s) xs in
+    let long : length (take at xs ++ s) ≡ at + length s =
+    length-append (take at xs) s ∙ omega (arith, length-take-le at xs short) in
+    rw (p.ends, p.stands, ← append_assoc (take at xs) s rest) (take_at (take at xs ++ s) rest (at + length s) long)
+
+-- a line put behind the first bytes of a slice that has room for it
+pub put_more : (word numbers xs ys before : List ℕ) (size end : ℕ) → take size xs ≡ before → size ≤ length xs →
+    length before + length (line_of word numbers) ≤ length xs →
+    end ≡ put_reply word numbers (length xs) size →
+    ys ≡ put_writes word numbers xs size →
+    (take end ys ≡ before ++ line_of word numbers) × (end ≤ length xs)
+put_more word numbers xs ys before size end front short room e w =
+    let line = line_of word numbers in
+    let long : length before ≡ size = sym (ap length front) ∙ length-take-le size xs short in
+    let put = put_line word numbers xs ys size end (length line) (le_refl _) (omega (arith, long, room)) e w in (
+      put_front put.0 short ∙ ap (λ (zs : List ℕ). zs ++ line) front,
+      omega (arith, put.1, long, room),
+    )
+
+-- how long a text is behind which a line was put
+pub grown : (before line : List ℕ) (most : ℕ) {after : List ℕ} → after ≡ before ++ line → length line ≤ most →
+    length after ≤ length before + most
+grown before line most e short = omega (arith, ap length e, length-append before line)
 
 -- how long the lines can be, by the bits of their numbers: 8 of them are at most 3 digits, 16 at most 5 and 64 at
 -- most 20

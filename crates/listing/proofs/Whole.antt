@@ -9,15 +9,16 @@ use native.Mathlib.Nat.{le_refl}
 use native.Mathlib.Omega.{arith}
 use lib.Dec.{ltb}
 use lib.ListN.{length, take, drop}
-use lib.Seq.{take_at, take_all}
+use lib.Seq.{take_all}
 use borrow.Author.Tests.{eq-eqb, ne_eqb, lt-ltb, le-ltb, ltb-false}
 use Rattle.counting.proofs.Bools.{cond_true, cond_false}
+use Rattle.std.specs.Prelude.{Ok, Err}
 use Rattle.run.specs.declared.Run.{Run}
 use Rattle.run.specs.declared.Next.{Next}
-use Rattle.run.specs.State.{start_run}
+use Rattle.run.specs.State.{start_run, zeros}
 use Rattle.lines.specs.Line.{placed}
 use Rattle.listing.specs.File.{table_begins, heading, rows_of, state_after, refused_start}
-use Rattle.listing.specs.Inside.{Put, Started}
+use Rattle.listing.specs.Inside.{Started, Ended}
 use Rattle.listing.specs.Listing.{
   run_line,
   last_line,
@@ -56,6 +57,10 @@ module _ (bytes : List ℕ) where
         ap (λ (k : ℕ). ended_by k s) (e ∙ sym (first_refused _ _ h))
         ∙ ended_zeros _ s _ (λ z. h (sym (first_refused _ _ h) ∙ z))
 
+    pub early_ends : (refusal : ℕ) → refusal ≡ refused_start bytes → refusal ≡ ends_with bytes
+    unfolding ends_with
+    early_ends refusal e = e ∙ sym (first_refused _ _ h)
+
     pub early_lines : first_lines bytes ≡ []
     unfolding first_lines
     early_lines = cond_false _ _ (ne_eqb _ 0 h)
@@ -88,6 +93,16 @@ module _ (bytes : List ℕ) where
     all_lines s e =
         ap (λ (q : Run). run_line q.n q.t q.faulty ++ iteration_lines bytes (done_of bytes)) e
         ∙ sym (cond_true _ _ (eq-eqb _ 0 ok))
+
+  -- the outcome of a file that is told to its end, and of one that is refused
+  pub outcome_sent : (s : Run) → Ended bytes (Ok s) → record { refusal = 0; run = s } ≡ outcome_of bytes
+  unfolding outcome_of ended_by
+  outcome_sent s e = rw (e.0, e.1) refl
+
+  pub outcome_refused : (refusal : ℕ) → Ended bytes (Err refusal) →
+      record { refusal = refusal; run = zeros } ≡ outcome_of bytes
+  unfolding outcome_of ended_by
+  outcome_refused refusal e = rw (← e.0, ne_eqb refusal 0 e.1) refl
 
   -- the last line behind the others
   pub with_last : (r : Next) → r ≡ outcome_of bytes →
@@ -140,10 +155,3 @@ module _ (bytes : List ℕ) where
       ∙ ap (λ (front : List ℕ). front ++ drop (length text) slice) all
       ∙ ap (λ (t : List ℕ). t ++ drop (length t) slice) e
       ∙ list_written slice l
-
--- the front of a slice in which a text was put
-pub front_text : (xs ys text : List ℕ) (end : ℕ) → Put xs ys 0 end text → (end ≡ length text) × (take end ys ≡ text)
-unfolding placed
-front_text xs ys text end p =
-    let size : end ≡ length text = p.ends ∙ omega arith in
-    (size, rw (size, p.stands) (take_at text _ (length text) refl))

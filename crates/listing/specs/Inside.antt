@@ -1,15 +1,13 @@
 -- What the private functions say of their parts of the work. No promise of the crate names any of it.
-use Rattle.std.specs.Prelude.{ℕ, ◌+◌, ◌≤◌, ◌<◌, ◌≡◌, true, List, length, get_or}
+use Rattle.std.specs.Prelude.{ℕ, ◌+◌, ◌≤◌, ◌<◌, ◌≡◌, ◌≢◌, true, List, length, get_or, Result, Ok, Err}
 use Rattle.counting.specs.Sets.{member}
 use Rattle.gradecast.specs.Steps.{place1, place2, place3}
 use Rattle.run.specs.declared.Run.{Run}
-use Rattle.run.specs.declared.Next.{Next}
-use Rattle.run.specs.State.{no_reasons, iterate_reply}
+use Rattle.run.specs.State.{iterate_reply}
 use Rattle.runfile.specs.File.{table_row}
 use Rattle.lines.specs.Line.{placed}
-use Rattle.listing.specs.declared.Told.{Told}
 use Rattle.listing.specs.File.{table_begins, table_of, refused_table, heading, state_after, refused_start}
-use Rattle.listing.specs.Listing.{outcome_of}
+use Rattle.listing.specs.Listing.{done_of, ends_with}
 
 -- a place of the slice holds the row that the table has there
 abbrev pub Holds : List ℕ → List ℕ → ℕ → Type 0
@@ -38,21 +36,30 @@ pub record Underway (s : Run) (bytes : List ℕ) : Type 0 where
   pub few : s.done ≤ 4
   pub behind : table_begins s.n s.done ≤ length bytes
 
--- the reply to the next table of a file: its refusal, and where there is none the iteration's state
-pub record Advanced (s : Run) (bytes : List ℕ) (r : Next) : Type 0 where
-  pub number : r.refusal
-      ≡ refused_table s.n bytes s.done (iterate_reply s (table_of s.n bytes s.done)).refusal
-  pub state : r.refusal ≡ 0 → r.run ≡ (iterate_reply s (table_of s.n bytes s.done)).run
+-- a step that may be refused: by this number, or else it leads to this state
+abbrev pub LeadsTo : ℕ → Run → Result Run ℕ → Type 0
+LeadsTo refusal s (Ok r) = (refusal ≡ 0) × (r ≡ s)
+LeadsTo refusal s (Err number) = (number ≡ refusal) × (number ≢ 0)
+
+-- the step to the next table of a file: its refusal, or else the iteration's state
+abbrev pub Advanced : Run → List ℕ → Result Run ℕ → Type 0
+Advanced s bytes =
+    let reply = iterate_reply s (table_of s.n bytes s.done) in
+    LeadsTo (refused_table s.n bytes s.done reply.refusal) reply.run
+
+-- the same, where the state of the iteration takes the place of the one before
+abbrev pub Moved : Run → List ℕ → Run → Result (Unit {0}) ℕ → Type 0
+Moved s bytes next (Ok _) = Advanced s bytes (Ok next)
+Moved s bytes next (Err number) = Advanced s bytes (Err number)
+
+-- the whole of a file: the refusal with which its listing ends, or else the last state
+abbrev pub Ended : List ℕ → Result Run ℕ → Type 0
+Ended bytes = LeadsTo (ends_with bytes) (state_after bytes (done_of bytes))
 
 -- a text was put at a place of a slice, and end is the place behind it
 pub record Put (before after : List ℕ) (at end : ℕ) (text : List ℕ) : Type 0 where
   pub ends : end ≡ at + length text
   pub stands : after ≡ placed before at text
-
--- the heading and the start: the refusal, and where there is none the state before the first iteration
-pub record Begun (bytes : List ℕ) (r : Next) : Type 0 where
-  pub number : r.refusal ≡ refused_start bytes
-  pub state : r.refusal ≡ 0 → r.run ≡ state_after bytes 0
 
 -- the state before the first iteration of a file that is not refused yet
 pub record Started (s : Run) (bytes : List ℕ) : Type 0 where
@@ -65,22 +72,3 @@ pub record Started (s : Run) (bytes : List ℕ) : Type 0 where
   pub same_n : s.n ≡ (heading bytes).n
   pub same_t : s.t ≡ (heading bytes).t
   pub behind : table_begins s.n 0 ≤ length bytes
-
--- the outcome of a file, and the lines before the last, put at a place of a slice
-pub record ToldBy (bytes before after : List ℕ) (at : ℕ) (lines : List ℕ) (r : Told) : Type 0 where
-  pub outcome : r.last ≡ outcome_of bytes
-  pub text : Put before after at r.size lines
-
--- a state with these parts: the lines of a state's boxes go by nothing else
-unfoldable pub with_parts : ℕ → ℕ → List ℕ → List ℕ → Run
-with_parts faulty done rows lists =
-    record {
-      n = 0;
-      t = 0;
-      faulty = faulty;
-      done = done;
-      sent = 0;
-      rows = rows;
-      lists = lists;
-      reasons = no_reasons;
-    }

@@ -104,7 +104,7 @@ room_whole n t room h = go (ltb room (file_bytes n t)) refl
 -- the file without any row that was said, written to that room
 pub rows_filed : (m : Maker) (rows file part : List ℕ) (end : ℕ) → end ≡ file_room m.n m.t (length file) →
     write_heading_refusal m.n m.t m.faulty rows end ≡ 0 → part ≡ empty_file m rows →
-    part ++ post_of 0 (end - 0) file ≡ placed file 0 (empty_file m rows)
+    part ++ drop end file ≡ placed file 0 (empty_file m rows)
 unfolding placed heading_bytes
 rows_filed m rows file part end is-end passes is_part =
     let n = m.n in
@@ -112,6 +112,6 @@ rows_filed m rows file part end is-end passes is_part =
     let whole = room_whole n m.t (length file) (λ z. omega (arith, some, is-end, z)) in
     let long : end ≡ 0 + length (empty_file m rows) =
     omega (arith, is-end, whole, file_long n m.t m.faulty rows end passes, empty_long m rows) in
-    ap (λ (xs : List ℕ). xs ++ post_of 0 (end - 0) file) is_part
+    ap (λ (xs : List ℕ). xs ++ drop end file) is_part
     ∙ ap (λ (xs : List ℕ). empty_file m rows ++ xs)
-    (Post-is 0 end file (omega arith) ∙ ap (λ (k : ℕ). drop k file) long)
+    (ap (λ (k : ℕ). drop k file) long)

@@ -2,19 +2,18 @@
 use mathlib.Core.Path.{◌≡◌, refl}
 use mathlib.Core.Bool.{Bool, true, false, cond, not, true≢false}
 use mathlib.Core.List.{List}
-use Prim.Native.Nat.{ℕ, ◌+◌, min, ◌≤◌, ◌<◌}
+use Prim.Native.Nat.{ℕ, ◌+◌, ◌≤◌, ◌<◌}
 use lib.Dec.{eqb, ltb}
-use lib.ListN.{length, get_or}
+use lib.ListN.{length}
 use native.Mathlib.Omega.{arith}
-use borrow.Author.Tests.{eq-eqb, ne_eqb, le-leb, lt-leb, lt-ltb, le-ltb}
-use Rattle.counting.proofs.Bools.{and_false_right, not_true, not_false, cond_true, cond_false}
+use borrow.Author.Tests.{eq-eqb, ne_eqb, lt-leb, lt-ltb, le-ltb}
+use Rattle.counting.proofs.Bools.{not_false, cond_true, cond_false}
 use Rattle.lines.specs.Line.{placed}
 use Rattle.lines.specs.Read.{bare, word_in, is_line, numbers_in}
-use Rattle.listing.specs.Listing.{run_word}
 use Rattle.runfile.specs.Write.{row_refusal, row_writes}
 use Rattle.sizes.specs.Sizes.{size_refusal}
 use Rattle.says.specs.declared.Place.{Place}
-use Rattle.says.specs.Say.{rows_word, say_word, row_in, is_meant, say_at, place_reply}
+use Rattle.says.specs.Say.{row_in, is_meant, say_at, place_reply}
 use Rattle.says.proofs.Laws.{meant_of}
 use Rattle.making.specs.declared.Maker.{Maker}
 use Rattle.making.specs.Make.{
@@ -23,13 +22,11 @@ use Rattle.making.specs.Make.{
   reached,
   not_understood,
   is_refused,
-  run_taken,
   rows_refusal,
   empty_file,
   rows_taken,
   row_said,
   say_taken,
-  has_word,
   words_taken,
   after_line,
   is_comment,
@@ -38,66 +35,26 @@ use Rattle.making.specs.Make.{
   line_taken,
   line_ended,
 }
-use Rattle.making.specs.Text.{settled_as, ends_early, whole_file, outcome_by}
+use Rattle.making.specs.Text.{ends_early, outcome_by}
 
-module _ (s : Progress) (named : Bool) (numbers : List ℕ) where
-  -- another word
-  pub run_other : not named ≡ true → not_understood s 3 ≡ run_taken s named numbers
-  unfolding run_taken
-  run_other h = rw (not_true named h) refl
-
-  pub rows_other : not named ≡ true → not_understood s 4 ≡ rows_taken s named numbers
+-- the word that is due
+module _ (s : Progress) (numbers : List ℕ) where
+  pub rows_refused : (rows_refusal s.maker numbers (length s.file) ≡ 0 → ⊥) →
+      is_refused s (rows_refusal s.maker numbers (length s.file)) ≡ rows_taken s true numbers
   unfolding rows_taken
-  rows_other h = rw (not_true named h) refl
+  rows_refused h = rw (ne_eqb (rows_refusal s.maker numbers (length s.file)) 0 h) refl
 
-  pub say_other : not named ≡ true → not_understood s 5 ≡ say_taken s named numbers
+  pub rows_good : rows_refusal s.maker numbers (length s.file) ≡ 0 →
+      progress (reached s.maker 2 s.maker.n s.maker.t s.maker.faulty)
+      (placed s.file 0 (empty_file s.maker numbers))
+      ≡ rows_taken s true numbers
+  unfolding rows_taken
+  rows_good h = rw (eq-eqb (rows_refusal s.maker numbers (length s.file)) 0 h) refl
+
+  pub say_said : (place : Place) → place ≡ place_reply s.maker.n s.maker.t numbers → place.refusal ≡ 0 →
+      not place.meant ≡ false → row_said s place.at (row_in numbers) ≡ say_taken s true numbers
   unfolding say_taken
-  say_other h = rw (not_true named h) refl
-
-  pub run_counts : (length numbers ≡ 3 → ⊥) → not_understood s 3 ≡ run_taken s named numbers
-  unfolding run_taken
-  run_counts h = rw (and_false_right named (ne_eqb (length numbers) 3 h)) refl
-
-  -- the word that is due
-  module _ (is : not named ≡ false) where
-    pub run_good : length numbers ≡ 3 →
-        progress
-        (reached s.maker 1 (min (get_or numbers 0 0) 255) (min (get_or numbers 1 0) 255)
-        (min (get_or numbers 2 0) 65535))
-        s.file
-        ≡ run_taken s named numbers
-    unfolding run_taken
-    run_good h = rw (not_false named is, eq-eqb (length numbers) 3 h) refl
-
-    pub rows_refused : (rows_refusal s.maker numbers (length s.file) ≡ 0 → ⊥) →
-        is_refused s (rows_refusal s.maker numbers (length s.file)) ≡ rows_taken s named numbers
-    unfolding rows_taken
-    rows_refused h =
-        rw (not_false named is, ne_eqb (rows_refusal s.maker numbers (length s.file)) 0 h) refl
-
-    pub rows_good : rows_refusal s.maker numbers (length s.file) ≡ 0 →
-        progress (reached s.maker 2 s.maker.n s.maker.t s.maker.faulty)
-        (placed s.file 0 (empty_file s.maker numbers))
-        ≡ rows_taken s named numbers
-    unfolding rows_taken
-    rows_good h =
-        rw (not_false named is, eq-eqb (rows_refusal s.maker numbers (length s.file)) 0 h) refl
-
-    module _ (place : Place) (e : place ≡ place_reply s.maker.n s.maker.t numbers) where
-      pub say_refused : (place.refusal ≡ 0 → ⊥) → is_refused s place.refusal ≡ say_taken s named numbers
-      unfolding say_taken
-      say_refused h = rw (not_false named is, ← e, ne_eqb place.refusal 0 h) refl
-
-      module _ (passes : place.refusal ≡ 0) where
-        pub say_unmeant : not place.meant ≡ true → not_understood s 5 ≡ say_taken s named numbers
-        unfolding say_taken
-        say_unmeant h =
-            rw (not_false named is, ← e, eq-eqb place.refusal 0 passes, not_true place.meant h) refl
-
-        pub say_said : not place.meant ≡ false → row_said s place.at (row_in numbers) ≡ say_taken s named numbers
-        unfolding say_taken
-        say_said h =
-            rw (not_false named is, ← e, eq-eqb place.refusal 0 passes, not_false place.meant h) refl
+  say_said place e passes h = rw (← e, eq-eqb place.refusal 0 passes, not_false place.meant h) refl
 
 -- the row of a line that is understood
 module _ (s : Progress) (at row : ℕ) where
@@ -105,11 +62,6 @@ module _ (s : Progress) (at row : ℕ) where
       is_refused s (row_refusal at (length s.file)) ≡ row_said s at row
   unfolding row_said
   said_short h = rw (ne_eqb (row_refusal at (length s.file)) 0 h) refl
-
-  pub said_good : row_refusal at (length s.file) ≡ 0 →
-      progress s.maker (row_writes row at s.file) ≡ row_said s at row
-  unfolding row_said
-  said_good h = rw (eq-eqb (row_refusal at (length s.file)) 0 h) refl
 
 -- a row that is refused is not written
 pub row_stays : (row at : ℕ) (slice : List ℕ) → (row_refusal at (length slice) ≡ 0 → ⊥) →
@@ -138,60 +90,16 @@ some_numbers n t numbers place e h =
     go true false f g = absurd (true≢false g)
     go false b f g = absurd (true≢false g)
 
--- the outcome by the stage
+-- the outcome where the line `run` is due
 module _ (m : Maker) (room : ℕ) where
   pub outcome_run : m.stage ≡ 0 → ends_early m 3 ≡ outcome_by m room
   unfolding outcome_by
   outcome_run h = rw (lt-leb 3 m.stage (omega (arith, h)), eq-eqb m.stage 0 h) refl
 
-  pub outcome_rows : m.stage ≡ 1 → ends_early m 4 ≡ outcome_by m room
-  unfolding outcome_by
-  outcome_rows h =
-      rw (
-        lt-leb 3 m.stage (omega (arith, h)),
-        ne_eqb m.stage 0 (λ z. omega (arith, h, z)),
-        eq-eqb m.stage 1 h,
-      ) refl
-
-  pub outcome_say : m.stage ≡ 2 → whole_file m room ≡ outcome_by m room
-  unfolding outcome_by
-  outcome_say h =
-      rw (
-        lt-leb 3 m.stage (omega (arith, h)),
-        ne_eqb m.stage 0 (λ z. omega (arith, h, z)),
-        ne_eqb m.stage 1 (λ z. omega (arith, h, z)),
-      ) refl
-
-  pub outcome_over : 3 ≤ m.stage → settled_as m ≡ outcome_by m room
-  unfolding outcome_by
-  outcome_over h = rw (le-leb 3 m.stage h) refl
-
--- a word and numbers, by the stage
-module _ (s : Progress) (line : List ℕ) (size : ℕ) (numbers : List ℕ) where
-  pub words_run : s.maker.stage ≡ 0 →
-      run_taken s (has_word line size run_word) numbers ≡ words_taken s line size numbers
-  unfolding words_taken
-  words_run h = rw (eq-eqb s.maker.stage 0 h) refl
-
-  pub words_rows : s.maker.stage ≡ 1 →
-      rows_taken s (has_word line size rows_word) numbers ≡ words_taken s line size numbers
-  unfolding words_taken
-  words_rows h =
-      rw (ne_eqb s.maker.stage 0 (λ z. omega (arith, h, z)), eq-eqb s.maker.stage 1 h) refl
-
-  pub words_say : (s.maker.stage ≡ 0 → ⊥) → (s.maker.stage ≡ 1 → ⊥) →
-      say_taken s (has_word line size say_word) numbers ≡ words_taken s line size numbers
-  unfolding words_taken
-  words_say f g = rw (ne_eqb s.maker.stage 0 f, ne_eqb s.maker.stage 1 g) refl
-
 -- one more line of the text, case by case
 module _ (m : Maker) (file line : List ℕ) where
   abbrev pub counted_so : Progress
   counted_so = progress (after_line m) file
-
-  pub line_comment : is_comment line ≡ true → counted_so ≡ line_ended (progress m file) line
-  unfolding line_ended line_taken
-  line_comment h = rw h refl
 
   module _ (read : is_comment line ≡ false) where
     pub line_long : 1000 < length line → not_understood counted_so 1 ≡ line_ended (progress m file) line
@@ -199,10 +107,6 @@ module _ (m : Maker) (file line : List ℕ) where
     line_long h = rw (read, lt-ltb 1000 (length line) h) refl
 
     module _ (short : length line ≤ 1000) where
-      pub line_empty : is_empty line ≡ true → counted_so ≡ line_ended (progress m file) line
-      unfolding line_ended line_taken
-      line_empty h = rw (read, le-ltb 1000 (length line) short, h) refl
-
       pub line_content : is_empty line ≡ false → content_taken counted_so line ≡ line_ended (progress m file) line
       unfolding line_ended line_taken
       line_content h = rw (read, le-ltb 1000 (length line) short, h) refl

@@ -16,18 +16,13 @@ fn write_part(file: &[u8], part: usize, text: &mut [u8]) -> bool {
 
 // Writes so many parts of the text, from the first on. Were all of them written?
 fn write_parts(file: &[u8], parts: usize, text: &mut [u8]) -> bool {
-    let mut part: usize = 0;
-    while part < parts {
-        if !write_part(file, part, text) {
-            return false;
-        }
-        part += 1;
-    }
-    true
+    (0..parts).all(|part| write_part(file, part, text))
 }
 
 // Tells a refusal; nothing where the number is 0. Gives the size of what is told, so that its contract says that all
 // of it has room.
+// Stays: beside `tell` of notebook_make, and `fill` and the line on standard error beside those of other programs:
+// three lines each, which shared would be public, and no contract can say what is written to standard error.
 fn tell(refusal: u8) -> usize
     ensures { result ≡ length (told_text refusal 0 0) }
 {

@@ -10,24 +10,18 @@ ghost use Rattle.std.specs.Prelude.{◌≡◌, length};
 ghost use Rattle.why.specs.Answer.{answer_of};
 
 use std::env::{Env, FillError};
-use why::Number;
 
-// The box number that an argument is. One that is missing, or has more than 20 bytes, comes as an empty text.
-fn number_at(rt: &impl Env, i: usize) -> Number {
+// The box number that an argument is. One that is missing, or has more than 20 bytes, is none.
+fn number_at(rt: &impl Env, i: usize) -> Option<u64> {
     let mut word = [0u8; 20];
-    match rt.arg(i, &mut word) {
-        Ok(size) => why::read_number(&word[..size]),
-        Err(_) => why::read_number(b""),
-    }
+    let size = rt.arg(i, &mut word).ok()?;
+    why::read_number(&word[..size])
 }
 
 // Has the program no argument at this place?
 fn is_missing(rt: &impl Env, i: usize) -> bool {
     let mut word = [0u8; 20];
-    match rt.arg(i, &mut word) {
-        Err(FillError::NotPresent) => true,
-        _ => false,
-    }
+    matches!(rt.arg(i, &mut word), Err(FillError::NotPresent))
 }
 
 // Prints the line. Gives its length, so that the contract says that all of it has room.
@@ -41,6 +35,7 @@ fn print_answer(file: &[u8], asked: u64, listed: u64) -> usize
 }
 
 // Reads a file, and prints the line.
+// Stays: two numbers side by side, here and in `print_answer`, as the public `why::answer` takes them.
 fn tell(asked: u64, listed: u64) {
     let mut file = [0u8; 182634];
     let size = inout::fill(&mut file, 0, 182634);
@@ -48,14 +43,13 @@ fn tell(asked: u64, listed: u64) {
 }
 
 fn main(rt: HostRuntime) {
-    let asked = number_at(&rt, 1);
-    let listed = number_at(&rt, 2);
-    if is_missing(&rt, 3) && asked.good && listed.good {
-        tell(asked.value, listed.value);
-    } else {
-        io::write_all(
-            inout::STANDARD_ERROR,
-            b"usage: notebook-why ASKED LISTED [FILE]\n",
-        );
+    match (number_at(&rt, 1), number_at(&rt, 2)) {
+        (Some(asked), Some(listed)) if is_missing(&rt, 3) => tell(asked, listed),
+        _ => {
+            io::write_all(
+                inout::STANDARD_ERROR,
+                b"usage: notebook-why ASKED LISTED [FILE]\n",
+            );
+        }
     }
 }

@@ -2,7 +2,8 @@
 use mathlib.Core.Path.{◌≡◌, refl, sym, ◌∙◌}
 use mathlib.Core.List.{List}
 use mathlib.Core.Bool.{true, false, not, ◌&&◌, ◌||◌}
-use Prim.Native.Nat.{ℕ, ◌≤◌, ◌<◌}
+use Prim.Native.Nat.{ℕ, ◌+◌, ◌≤◌, ◌<◌}
+use native.Mathlib.Omega.{arith}
 use lib.Dec.{eqb, ltb}
 use lib.ListN.{get_or, replicate, get_or-replicate}
 use borrow.Author.Tests.{eqb-true, ltb-true, le-ltb}
@@ -18,6 +19,7 @@ use Rattle.counting.proofs.Bools.{
   cond_true,
   cond_false,
 }
+use Rattle.counting.proofs.Build.{front_stays}
 use Rattle.counting.proofs.Count.{any_none}
 use Rattle.counting.proofs.Loops.{Filled, fill_rest}
 use Rattle.sizes.specs.Sizes.{sound, stray}
@@ -58,6 +60,16 @@ pub places_filled : {n k : ℕ} (f : ℕ → ℕ) {out : List ℕ} → n ≤ 13 
     Filled n f (replicate 13 0) k out → n ≤ k → out ≡ build 13 f
 places_filled f high none =
     fill_rest 13 f (replicate 13 0) high refl (λ q h l. get_or-replicate 13 q 0 0 l ∙ none q h)
+
+-- a turn that leaves a place as it was: it holds 0 already
+pub place_stays : {n k : ℕ} (f : ℕ → ℕ) {out : List ℕ} → n ≤ 13 → Filled n f (replicate 13 0) k out → k < n →
+    0 ≡ f k → Filled n f (replicate 13 0) (k + 1) out
+place_stays {k = k} f high filled l none = (
+  omega (arith, l),
+  filled.1
+      ∙ front_stays k f (replicate 13 0) (omega (arith, l, high))
+      (get_or-replicate 13 k 0 0 (omega (arith, l, high)) ∙ none),
+)
 
 -- in a state whose places are good, the list of a place without a sound box is empty
 pub no_list : (s : Run) → any 13 (bad_place s) ≡ false → (i : ℕ) → i < 13 →

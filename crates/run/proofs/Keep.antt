@@ -8,8 +8,8 @@ use native.Mathlib.Omega.{arith}
 use lib.ListN.{length, get_or, set, length-set}
 use Rattle.counting.specs.Count.{front}
 use Rattle.counting.specs.Sets.{member}
-use Rattle.counting.proofs.Bools.{cond_false}
-use Rattle.counting.proofs.Build.{front_none, front_turn, front_more, front_next}
+use Rattle.counting.proofs.Bools.{cond_true, cond_false}
+use Rattle.counting.proofs.Build.{front_none, front_turn, front_more}
 use Rattle.run.specs.declared.Joining.{Joining}
 use Rattle.run.specs.Inside.{BoxKept, joins_in, kept_to}
 use Rattle.run.specs.Iteration.{joined}
@@ -51,20 +51,31 @@ module _ (j : Joining) (found : ℕ → ℕ → ℕ) where
     pub so_far_begins : SoFar i before 0 before
     so_far_begins = (refl, λ first whole e. e ∙ ap (λ (q : ℕ). kept_to q j found first) (omega arith))
 
-    pub so_far_turn : {k v : ℕ} {after : List ℕ} → k < 13 → SoFar i before k after →
-        v ≡ cond (joins_in j i k) (found i k) (get_or after (13 * i + k) 0) →
-        SoFar i before (k + 1) (set after (13 * i + k) v)
+    -- a box that joins: what is found now is put down in its place
+    pub so_far_joins : {k v : ℕ} {after : List ℕ} → k < 13 → SoFar i before k after → joins_in j i k ≡ true →
+        v ≡ found i k → SoFar i before (k + 1) (set after (13 * i + k) v)
     unfolding kept_to at
-    so_far_turn {k} {v} {after} lk h e = (
+    so_far_joins {k} {v} {after} lk h joins e = (
       length-set after (13 * i + k) v ∙ h.0,
       λ first whole b.
-          let so = h.1 first whole b in
           let inside : 13 * i + k < length first = omega (arith, li, lk, whole) in
-          let stood =
-          ap (λ (xs : List ℕ). get_or xs (13 * i + k) 0) so ∙ front_next (13 * i + k) (at first) first inside in
-          front_turn (13 * i + k) (at first) first after inside so
-          (e ∙ ap (λ (old : ℕ). cond (joins_in j i k) (found i k) old) stood ∙ sym (at_place first i k lk))
+          let here = at_place first i k lk ∙ cond_true (found i k) (get_or first (13 * i + k) 0) joins in
+          front_turn (13 * i + k) (at first) first after inside (h.1 first whole b) (e ∙ sym here)
           ∙ ap (λ (q : ℕ). front q (at first) first) (omega arith),
+    )
+
+    -- any other box: its place stays
+    pub so_far_stays : {k : ℕ} {after : List ℕ} → k < 13 → SoFar i before k after → joins_in j i k ≡ false →
+        SoFar i before (k + 1) after
+    so_far_stays {k} {after} lk h stays = (
+      h.0,
+      λ first whole b.
+          h.1 first whole b
+          ∙ kept_more (13 * i + k) 1 first (omega (arith, li, lk, whole))
+          (λ p low up.
+          let here : p ≡ 13 * i + k = omega (arith, low, up) in
+          ap (λ (q : ℕ). joins_in j (q / 13) (q % 13)) here ∙ rw (place_box i lk, place_leader i lk) stays)
+          ∙ ap (λ (q : ℕ). kept_to q j found first) (omega arith),
     )
 
     -- behind the n boxes nobody joins

@@ -8,7 +8,7 @@ use native.Mathlib.Omega.{arith}
 use lib.Arith.{digits_div, digits_mod}
 use lib.Dec.{eqb}
 use lib.ListN.{get_or}
-use borrow.Author.Tests.{eqb-true, eqb-false, eq-eqb, ne_eqb, ltb-false, lt-ltb, le-ltb}
+use borrow.Author.Tests.{eqb-true, eqb-false, eq-eqb, ne_eqb, ltb-false, le-ltb}
 use Rattle.counting.specs.Count.{build}
 use Rattle.counting.proofs.Bools.{or_none, or_false_left, or_false_right, not_of_true, not_false}
 use Rattle.counting.proofs.Build.{get_or_build}
@@ -91,27 +91,12 @@ module _ (t done : ℕ) (r : Reason) where
             (not_false (eqb (confidence_at t r.support) r.confidence) (or_false_right sure (unfit t r) h));
       }
 
-  -- which test it is that holds
-  pub bad_unsaid : r.iteration ≡ 0 → bad_reason t done true r ≡ true
-  unfolding bad_reason without_iteration unlisted
-  bad_unsaid e = rw (eq-eqb r.iteration 0 e) refl
-
-  module _ (some : r.iteration ≡ 0 → ⊥) where
-    pub bad_early : done < r.iteration → bad_reason t done true r ≡ true
-    unfolding bad_reason without_iteration unlisted not_yet_done
-    bad_early h = rw (ne_eqb r.iteration 0 some, lt-ltb done r.iteration h) refl
-
-    module _ (is_done : r.iteration ≤ done) where
-      pub bad_sure : 1 < r.confidence → bad_reason t done true r ≡ true
-      unfolding bad_reason without_iteration unlisted not_yet_done confidence_above1
-      bad_sure h =
-          rw (ne_eqb r.iteration 0 some, le-ltb done r.iteration is_done, lt-ltb 1 r.confidence h) refl
-
-      pub bad_by_fit : r.confidence ≤ 1 →
-          not (eqb (confidence_at t r.support) r.confidence) ≡ bad_reason t done true r
-      unfolding bad_reason without_iteration unlisted not_yet_done confidence_above1 unfit
-      bad_by_fit h =
-          rw (ne_eqb r.iteration 0 some, le-ltb done r.iteration is_done, le-ltb 1 r.confidence h) refl
+  -- the support decides where no other test holds
+  pub bad_by_fit : (r.iteration ≡ 0 → ⊥) → r.iteration ≤ done → r.confidence ≤ 1 →
+      not (eqb (confidence_at t r.support) r.confidence) ≡ bad_reason t done true r
+  unfolding bad_reason without_iteration unlisted not_yet_done confidence_above1 unfit
+  bad_by_fit some is_done h =
+      rw (ne_eqb r.iteration 0 some, le-ltb done r.iteration is_done, le-ltb 1 r.confidence h) refl
 
   -- nothing is kept
   pub nothing_kept : kept r ≡ false → r ≡ no_reason

@@ -7,11 +7,10 @@ use mathlib.Core.List.{List}
 use Prim.Native.Nat.{ℕ, ◌+◌, ◌*◌, ◌≤◌, ◌<◌}
 use native.Mathlib.Omega.{arith}
 use lib.Dec.{eqb, ltb}
-use lib.ListN.{length, get_or, take, drop}
+use lib.ListN.{length, get_or}
 use Rattle.counting.specs.Count.{build}
-use Rattle.counting.specs.Sets.{member}
+use Rattle.counting.specs.Sets.{member, set_of}
 use Rattle.counting.proofs.Build.{get_or_build, length_build}
-use Rattle.counting.proofs.Sets.{set_of_ext}
 use Rattle.tally.specs.Tally.{chosen_row}
 use Rattle.tally.specs.Reply.{choice_reply}
 use Rattle.tally.proofs.Laws.{confidence_le}
@@ -23,7 +22,7 @@ use Rattle.gradecast.proofs.Boxes.{sound_not_faulty}
 use Rattle.gradecast.proofs.Cells.{cells_at, part_built}
 use Rattle.gradecast.proofs.Sound.{of_sound_lem}
 use Rattle.run.specs.declared.Run.{Run}
-use Rattle.run.specs.Inside.{GradesOf, cell_of, row_from, list_from}
+use Rattle.run.specs.Inside.{GradesOf, cell_of, part, row_from, list_from}
 use Rattle.run.specs.Iteration.{graded_rows, confidences, new_row, new_list}
 
 module _ (n faulty : ℕ) (f : ℕ → ℕ → ℕ) (i : ℕ) (high : n ≤ 13) (below : i < n)
@@ -36,8 +35,7 @@ module _ (n faulty : ℕ) (f : ℕ → ℕ → ℕ) (i : ℕ) (high : n ≤ 13) 
       ∙ of_sound_lem faulty f i k is_sound
 
   -- the part as a list
-  pub part_of : (xs : List ℕ) → length xs ≡ 169 → xs ≡ cells n (of_sound faulty f) →
-      take n (drop (i * n) xs) ≡ build n (f i)
+  pub part_of : (xs : List ℕ) → length xs ≡ 169 → xs ≡ cells n (of_sound faulty f) → part n xs i ≡ build n (f i)
   part_of xs l e = part_built n i (f i) xs high below l (cell_of_lem xs e)
 
 module _ (s : Run) (i : ℕ) (low : 1 ≤ s.n) (high : s.n ≤ 13) (box : SoundBox s.n s.faulty i)
@@ -70,7 +68,7 @@ module _ (s : Run) (i : ℕ) (low : 1 ≤ s.n) (high : s.n ≤ 13) (box : SoundB
 
   -- the row that `choose` gives over box i's parts is the definition's choice
   choice_of : length rows ≡ 169 → length confs ≡ 169 →
-      (choice_reply (take s.n (drop (i * s.n) rows)) (take s.n (drop (i * s.n) confs))).row ≡
+      (choice_reply (part s.n rows i) (part s.n confs i)).row ≡
       chosen_row (graded_rows s table i) (confidences s table i)
   unfolding graded_rows confidences confidence row conf
   choice_of lr lc =
@@ -88,17 +86,15 @@ module _ (s : Run) (i : ℕ) (low : 1 ≤ s.n) (high : s.n ≤ 13) (box : SoundB
 
   -- so the row from box i's part is the definition's new row
   pub row_of : length rows ≡ 169 → length confs ≡ 169 →
-      row_from s.n (get_or s.rows i 0) rows confs i ≡ new_row s table i
+      row_from (get_or s.rows i 0) (part s.n rows i) (part s.n confs i) ≡ new_row s table i
   unfolding row_from new_row
   row_of lr lc = ap (λ (chosen : ℕ). cond (eqb chosen 0) (get_or s.rows i 0) chosen) (choice_of lr lc)
 
   -- and so is the list
-  pub list_of : list_from s.n (get_or s.lists i 0) confs i ≡ new_list s table i
-  unfolding list_from new_list confidences
-  list_of =
-      set_of_ext s.n (λ k. member (get_or s.lists i 0) k || ltb (cell_of s.n confs i k) 2)
-      (λ k. member (get_or s.lists i 0) k || ltb (get_or (confidences s table i) k 0) 2)
-      (λ k l.
-      ap (λ (m : ℕ). member (get_or s.lists i 0) k || ltb m 2)
-      (confidence_cell k l
-      ∙ sym (get_or_build s.n (confidence s.n s.t s.faulty s.rows s.lists table i) k 0 l)))
+  pub list_of : length confs ≡ 169 → list_from (get_or s.lists i 0) (part s.n confs i) ≡ new_list s table i
+  unfolding list_from new_list confidences confidence conf
+  list_of lc =
+      let old = get_or s.lists i 0 in
+      ap (list_from old) (part_of s.n s.faulty conf i high below works confs lc g.found_confidences)
+      ∙ ap (λ (m : ℕ). set_of m (λ k. member old k || ltb (get_or (build s.n (conf i)) k 0) 2))
+      (length_build s.n (conf i))

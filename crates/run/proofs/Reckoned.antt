@@ -1,44 +1,22 @@
 -- Refusal 14 of the reasons by counting. Where each listed box has a good reason, something is kept for it. So as many
 -- places as are listed keep something exactly where no other place does, and then no reason is bad. Assumes nothing.
 use mathlib.Core.Path.{◌≡◌, refl, sym, ap, ◌∙◌, subst}
-use mathlib.Core.Bool.{Bool, true, false, not, ◌&&◌}
+use mathlib.Core.Bool.{Bool, true, false, not}
 use mathlib.Core.Logic.{⊎_elim}
-use Prim.Native.Nat.{ℕ, ◌+◌, ◌*◌, ◌/◌, ◌%◌, ◌≤◌, ◌<◌}
+use Prim.Native.Nat.{ℕ, ◌+◌, ◌*◌, ◌/◌, ◌%◌, ◌<◌}
 use native.Mathlib.Omega.{arith}
-use lib.Dec.{eqb, ltb}
+use lib.Dec.{eqb}
 use lib.ListN.{get_or}
-use lib.Pow.{pow_pos}
-use borrow.Author.Tests.{eqb-true, eqb-false, ltb-true, ltb-false, le-ltb}
+use borrow.Author.Tests.{eqb-true, eqb-false}
 use Rattle.counting.specs.Count.{any, count}
 use Rattle.counting.specs.Sets.{member}
-use Rattle.counting.proofs.Bools.{
-  either,
-  never,
-  both,
-  and_left,
-  and_right,
-  not_both,
-  same,
-}
-use Rattle.counting.proofs.Count.{
-  any_some,
-  any_none,
-  some_any,
-  none_any,
-  count_add,
-  count_ext,
-  count_strict,
-  count_wide,
-}
-use Rattle.counting.proofs.Sets.{member_empty}
-use Rattle.sizes.specs.Sizes.{sound, stray}
-use Rattle.sizes.proofs.Laws.{lt_within}
+use Rattle.counting.proofs.Bools.{either, never, both, and_left, and_right, same}
+use Rattle.counting.proofs.Count.{any_some, any_none, some_any, none_any, count_add, count_ext, count_strict}
 use Rattle.run.specs.declared.Reason.{Reason}
 use Rattle.run.specs.declared.Run.{Run}
-use Rattle.run.specs.Inside.{bad_listing}
+use Rattle.run.specs.Inside.{bad_box, bad_listing}
 use Rattle.run.specs.Iteration.{reason_in, reason_at}
-use Rattle.run.specs.State.{bad_place, listed_by, kept, bad_reason, bad_reasons}
-use Rattle.run.proofs.Entries.{bad_box_lem, no_list}
+use Rattle.run.specs.State.{listed_by, kept, bad_reason, bad_reasons}
 use Rattle.run.proofs.Listings.{
   place_box,
   place_leader,
@@ -54,27 +32,7 @@ use Rattle.run.proofs.Listings.{
   listing_kept,
 }
 
-module _ (s : Run) (high : s.n ≤ 13) (good : any 13 (bad_place s) ≡ false) where
-  -- a list holds boxes below n alone
-  pub list_within : (i : ℕ) → i < 13 → stray s.n (get_or s.lists i 0) ≡ false
-  unfolding bad_place
-  list_within i l = go (ltb i s.n && sound s.faulty i) refl
-    where
-      go : (b : Bool) → (ltb i s.n && sound s.faulty i) ≡ b → stray s.n (get_or s.lists i 0) ≡ false
-      go true e =
-          bad_box_lem s.n s.faulty i (get_or s.rows i 0) (get_or s.lists i 0) e
-          ∙ any_none 13 (bad_place s) good i l
-      go false e =
-          subst (λ (list : ℕ). stray s.n list ≡ false) (sym (no_list s good i l e))
-          (lt_within s.n 0 (pow_pos s.n))
-
-  -- behind n nobody is listed
-  none_above : (i k : ℕ) → s.n ≤ i → i < 13 → listed_by s i k ≡ false
-  unfolding listed_by
-  none_above i k h l =
-      ap (λ (list : ℕ). member list k) (no_list s good i l (not_both (sound s.faulty i) (le-ltb i s.n h)))
-      ∙ member_empty k
-
+module _ (s : Run) where
   -- the places that are listed, and those that keep something
   abbrev pub listed_place : ℕ → Bool
   listed_place p = listed_by s (p / 13) (p % 13)
@@ -94,20 +52,12 @@ module _ (s : Run) (high : s.n ≤ 13) (good : any 13 (bad_place s) ≡ false) w
       let whole : 13 * i + 13 ≡ 13 * (i + 1) = omega arith in
       omega (arith, e, f, here, count_add (13 * i) 13 listed_place, ap (λ (q : ℕ). count q listed_place) whole)
 
-  pub listed_all : (i : ℕ) {listed : ℕ} → i ≡ s.n → listed ≡ count (13 * i) listed_place →
-      listed ≡ count 169 listed_place
-  listed_all i same e =
-      e ∙ count_wide 169 listed_place (omega (arith, same, high))
-      (λ p h l.
-      none_above (p / 13) (p % 13) (omega (arith, h, same, place_again p, leader_lt p))
-      (omega (arith, l, place_again p)))
-
   -- has some box on the list of box i a bad reason?
-  abbrev pub bad_box : ℕ → Bool
-  bad_box i = any 13 (bad_listing s.t s.done (get_or s.lists i 0) (reason_at s i))
+  abbrev pub bad : ℕ → Bool
+  bad i = bad_box s.t s.done (get_or s.lists i 0) s.reasons i
 
-  pub some_bad : (i : ℕ) → i < 13 → bad_box i ≡ true → true ≡ any 13 (bad_reasons s)
-  unfolding bad_listing bad_reasons listed_by
+  pub some_bad : (i : ℕ) → i < 13 → bad i ≡ true → true ≡ any 13 (bad_reasons s)
+  unfolding bad_listing bad_reasons listed_by reason_at
   some_bad i l h =
       let w = any_some 13 (bad_listing s.t s.done (get_or s.lists i 0) (reason_at s i)) h in
       let k = w.at in
@@ -119,21 +69,17 @@ module _ (s : Run) (high : s.n ≤ 13) (good : any 13 (bad_place s) ≡ false) w
       (some_any 13 _ k w.below
       (subst (λ (b : Bool). bad_reason s.t s.done b r ≡ true) (sym on) bad)))
 
-  module _ (each : (i : ℕ) → i < s.n → bad_box i ≡ false) where
+  module _ (each : (i : ℕ) → i < 13 → bad i ≡ false) where
     -- who is listed has a good reason
     whole : (i k : ℕ) → i < 13 → k < 13 → listed_by s i k ≡ true → Listing s.t s.done (reason_at s i k)
-    unfolding bad_listing listed_by
+    unfolding bad_listing listed_by reason_at
     whole i k li lk h =
         let at = reason_at s i k in
         let is = member (get_or s.lists i 0) k in
         listed_good s.t s.done at
         (⊎_elim
-        (λ t. never (both h t) (any_none 13 _ (each i below) k lk))
+        (λ t. never (both h t) (any_none 13 _ (each i li) k lk))
         (λ f. f) (either (bad_reason s.t s.done true at)))
-      where
-        below : i < s.n
-        below = ⊎_elim (λ t. ltb-true i s.n t) (λ f. never h (none_above i k (ltb-false i s.n f) li))
-            (either (ltb i s.n))
 
     -- a place and its boxes
     box_lt : (p : ℕ) → p < 169 → p / 13 < 13

@@ -1,31 +1,20 @@
--- The refusals of a start begin with 4, 5 and 6, those of an iteration and of the call that says why with 4, 5, 6 and
--- 9; where those pass, the rest of the list decides. Assumes nothing.
-use mathlib.Core.Path.{◌≡◌, refl, sym}
-use mathlib.Core.Bool.{false, not}
-use mathlib.Core.List.{List, [], ◌∷◌}
-use Prim.Native.Nat.{ℕ, ◌-◌, ◌*◌, ◌≤◌, ◌<◌}
-use lib.Dec.{eqb, ltb}
-use lib.ListN.{length}
+-- What a test of n, t and the faulty set, or of the first four refusals of a state, says where it is passed; where
+-- those four pass, the rest of the list decides; and the replies with and without a refusal. Assumes nothing.
+use mathlib.Core.Path.{◌≡◌, refl}
+use mathlib.Core.Bool.{false}
+use mathlib.Core.List.{List}
+use Prim.Native.Nat.{ℕ, ◌-◌, ◌≤◌}
 use borrow.Author.Tests.{ne_eqb}
-use Rattle.counting.specs.Refuse.{Refusal, first_of}
-use Rattle.counting.specs.Refuse.Refusal.{refuse}
-use Rattle.counting.proofs.Refuse.{accepted, refused_first}
-use Rattle.sizes.specs.Sizes.{outside, too_many, stray, sound_zero, table_rows}
-use Rattle.sizes.proofs.Laws.{inside_low, inside_high, tolerated_lt}
+use Rattle.counting.specs.Refuse.{first_of}
+use Rattle.counting.proofs.Refuse.{accepted}
+use Rattle.sizes.specs.Sizes.{outside, too_many, stray, sound_zero}
+use Rattle.sizes.proofs.Laws.{inside_high}
 use Rattle.run.specs.declared.Reason.{Reason}
 use Rattle.run.specs.declared.Run.{Run}
 use Rattle.run.specs.declared.Next.{Next}
 use Rattle.run.specs.declared.Why.{Why}
 use Rattle.run.specs.Iteration.{no_reason, reason_at, next_run}
-use Rattle.run.specs.State.{
-  start_refusal,
-  start_run,
-  start_reply,
-  zeros,
-  bad_state,
-  iterate_refusal,
-  iterate_reply,
-}
+use Rattle.run.specs.State.{start_refusal, start_run, start_reply, zeros, iterate_refusal, iterate_reply}
 use Rattle.run.specs.Inside.{setting_refusal, first_refusal, asking_refusal}
 use Rattle.run.specs.Why.{why_refusal, why_reply}
 
@@ -34,9 +23,7 @@ pub record Allowed (n t faulty : ℕ) : Type 0 where
   pub pass4 : outside n ≡ false
   pub pass5 : too_many n t ≡ false
   pub pass6 : stray n faulty ≡ false
-  pub low : 1 ≤ n
   pub high : n ≤ 13
-  pub few : 3 * t < n
 
 module _ (n t faulty : ℕ) where
   pub setting_passes : setting_refusal n t faulty ≡ 0 → Allowed n t faulty
@@ -49,25 +36,10 @@ module _ (n t faulty : ℕ) where
         pass4 = h4.0;
         pass5 = h5.0;
         pass6 = h6.0;
-        low = inside_low n h4.0;
         high = inside_high n h4.0;
-        few = tolerated_lt n t h5.0;
       }
 
-  first : List Refusal
-  first = refuse 4 (outside n) ∷ refuse 5 (too_many n t) ∷ refuse 6 (stray n faulty) ∷ []
-
   module _ (rows : List ℕ) where
-    pub start_fails : (setting_refusal n t faulty ≡ 0 → ⊥) → setting_refusal n t faulty ≡ start_refusal n t faulty rows
-    unfolding setting_refusal start_refusal first
-    start_fails h = sym (refused_first first _ h)
-
-    pub start_goes_on : setting_refusal n t faulty ≡ 0 →
-        start_refusal n t faulty rows ≡ first_of
-        (refuse 11 (not (eqb (length rows) n)) ∷ refuse 9 (sound_zero n faulty rows) ∷ [])
-    unfolding start_refusal first_of
-    start_goes_on e = let s = setting_passes e in rw (s.pass4, s.pass5, s.pass6) refl
-
     -- the replies of a start
     pub start_refused : (r : ℕ) (s : Run) → r ≡ start_refusal n t faulty rows → (r ≡ 0 → ⊥) → s ≡ zeros →
         ◌≡◌ {A = Next} (record { refusal = r; run = s }) (start_reply n t faulty rows)
@@ -79,18 +51,7 @@ module _ (n t faulty : ℕ) where
     unfolding start_reply
     start_taken s e h = rw (e, h) refl
 
--- the refusals of a state begin with 4, 5, 6 and 9
 module _ (s : Run) where
-  pub first_fails : (setting_refusal s.n s.t s.faulty ≡ 0 → ⊥) →
-      setting_refusal s.n s.t s.faulty ≡ first_refusal s
-  unfolding setting_refusal first_refusal first
-  first_fails h = sym (refused_first (first s.n s.t s.faulty) _ h)
-
-  pub first_goes_on : setting_refusal s.n s.t s.faulty ≡ 0 →
-      first_refusal s ≡ first_of (refuse 9 (sound_zero s.n s.faulty s.rows) ∷ [])
-  unfolding first_refusal first_of
-  first_goes_on e = let p = setting_passes s.n s.t s.faulty e in rw (p.pass4, p.pass5, p.pass6) refl
-
   -- where all four pass
   pub record Begun : Type 0 where
     pub allowed : Allowed s.n s.t s.faulty
@@ -109,27 +70,13 @@ module _ (s : Run) where
               pass4 = h4.0;
               pass5 = h5.0;
               pass6 = h6.0;
-              low = inside_low s.n h4.0;
               high = inside_high s.n h4.0;
-              few = tolerated_lt s.n s.t h5.0;
             };
         pass9 = h9.0;
       }
 
-  all_first : List Refusal
-  all_first =
-      refuse 4 (outside s.n) ∷
-      refuse 5 (too_many s.n s.t) ∷
-      refuse 6 (stray s.n s.faulty) ∷
-      refuse 9 (sound_zero s.n s.faulty s.rows) ∷
-      []
-
   -- a call that says why
   module _ (asked listed : ℕ) where
-    pub why_fails : (first_refusal s ≡ 0 → ⊥) → first_refusal s ≡ why_refusal s asked listed
-    unfolding first_refusal why_refusal all_first
-    why_fails h = sym (refused_first all_first _ h)
-
     pub why_goes_on : first_refusal s ≡ 0 → why_refusal s asked listed ≡ asking_refusal s asked listed
     unfolding why_refusal asking_refusal first_of
     why_goes_on e =
@@ -155,23 +102,6 @@ module _ (s : Run) where
     why_reason e = rw e refl
 
 module _ (s : Run) (table : List ℕ) where
-  pub iterate_fails : (first_refusal s ≡ 0 → ⊥) → first_refusal s ≡ iterate_refusal s table
-  unfolding first_refusal iterate_refusal all_first
-  iterate_fails h = sym (refused_first (all_first s) _ h)
-
-  pub iterate_goes_on : first_refusal s ≡ 0 →
-      iterate_refusal s table ≡
-      first_of
-      (refuse 11 (not (eqb (length table) (table_rows s.n))) ∷
-      refuse 12 (ltb s.t s.done) ∷
-      refuse 14 (bad_state s) ∷
-      [])
-  unfolding iterate_refusal first_of
-  iterate_goes_on e =
-      let b = first_passes s e in
-      let p = b.allowed in
-      rw (p.pass4, p.pass5, p.pass6, b.pass9) refl
-
   -- the replies of an iteration
   pub iterate_refused : (r : ℕ) → r ≡ iterate_refusal s table → (r ≡ 0 → ⊥) →
       ◌≡◌ {A = Next} (record { refusal = r; run = s }) (iterate_reply s table)

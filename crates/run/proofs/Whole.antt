@@ -30,12 +30,11 @@ use Rattle.run.specs.declared.Reasons.{Reasons}
 use Rattle.run.specs.declared.Run.{Run}
 use Rattle.run.specs.Inside.{
   GradesOf,
-  AllCells,
   AllPlaces,
   Keeping,
   cell_of,
-  row_from,
-  list_from,
+  rows_from,
+  lists_from,
   joins_in,
   kept_to,
   kept_reasons,
@@ -110,44 +109,31 @@ module _ (s : Run) (table : List ℕ) (a : Iterable s table) where
           found_supports = ap (λ (c : Cast). c.supports) found;
         }
 
-    pub cast_cells : AllCells s.n r.rows r.confidences
-    cast_cells =
-        record {
-          low = low;
-          high = high;
-          all_rows = ap length grades.found_rows ∙ length_cells s.n _ high;
-          all_confidences = ap length grades.found_confidences ∙ length_cells s.n _ high;
-        }
+    rows_long : length r.rows ≡ 169
+    rows_long = ap length grades.found_rows ∙ length_cells s.n _ high
 
-    supports_long : length r.supports ≡ 169
-    supports_long = ap length grades.found_supports ∙ length_cells s.n _ high
+    confidences_long : length r.confidences ≡ 169
+    confidences_long = ap length grades.found_confidences ∙ length_cells s.n _ high
 
     -- the rows and the lists of step 5 are those of the definitions
-    places_are : (f : ℕ → ℕ → ℕ) (g : ℕ → ℕ) → ((i : ℕ) → SoundBox s.n s.faulty i → f i i ≡ g i) →
-        build 13 (λ i. entry s.n s.faulty (f i) i) ≡ build 13 (entry s.n s.faulty g)
+    places_are : (f g : ℕ → ℕ) → ((i : ℕ) → SoundBox s.n s.faulty i → f i ≡ g i) →
+        build 13 (entry s.n s.faulty f) ≡ build 13 (entry s.n s.faulty g)
     unfolding entry
-    places_are f g h =
-        build_ext 13 _ _ (λ i l. go i (ltb i s.n && sound s.faulty i) refl)
+    places_are f g h = build_ext 13 _ _ (λ i l. go i (ltb i s.n && sound s.faulty i) refl)
       where
-        go : (i : ℕ) (b : Bool) → (ltb i s.n && sound s.faulty i) ≡ b → cond b (f i i) 0 ≡ cond b (g i) 0
+        go : (i : ℕ) (b : Bool) → (ltb i s.n && sound s.faulty i) ≡ b → cond b (f i) 0 ≡ cond b (g i) 0
         go i false e = refl
         go i true e = h i (box_is s.n s.faulty i e)
 
-    pub rows_are :
-        build 13 (λ i. entry s.n s.faulty (row_from s.n (get_or s.rows i 0) r.rows r.confidences) i)
-        ≡ build 13 (entry s.n s.faulty (new_row s table))
+    pub rows_are : rows_from s r ≡ build 13 (entry s.n s.faulty (new_row s table))
     rows_are =
-        places_are (λ i. row_from s.n (get_or s.rows i 0) r.rows r.confidences) (new_row s table)
-        (λ i b.
-        row_of s i low high b table r.rows r.confidences r.supports grades
-        cast_cells.all_rows cast_cells.all_confidences)
+        places_are _ (new_row s table)
+        (λ i b. row_of s i low high b table r.rows r.confidences r.supports grades rows_long confidences_long)
 
-    pub lists_are :
-        build 13 (λ i. entry s.n s.faulty (list_from s.n (get_or s.lists i 0) r.confidences) i)
-        ≡ build 13 (entry s.n s.faulty (new_list s table))
+    pub lists_are : lists_from s r ≡ build 13 (entry s.n s.faulty (new_list s table))
     lists_are =
-        places_are (λ i. list_from s.n (get_or s.lists i 0) r.confidences) (new_list s table)
-        (λ i b. list_of s i low high b table r.rows r.confidences r.supports grades)
+        places_are _ (new_list s table)
+        (λ i b. list_of s i low high b table r.rows r.confidences r.supports grades confidences_long)
 
     -- the reasons of step 5, from the lists before and after
     module _ (lists : List ℕ) (are : lists ≡ build 13 (entry s.n s.faulty (new_list s table))) where
@@ -183,12 +169,10 @@ module _ (s : Run) (table : List ℕ) (a : Iterable s table) where
               let zero = no_list s a.legal.pass14_places i (omega (arith, l, high)) e in
               absurd (h (zero ∙ sym (new_at i ∙ cond_false (new_list s table i) 0 e)))
 
-      pub keeping : Keeping joining r.confidences r.supports
+      pub keeping : Keeping joining r.confidences
       keeping =
           record {
             high = high;
-            all_confidences = cast_cells.all_confidences;
-            all_supports = supports_long;
             within = λ i k l. joins_as i k ∙ joins_above s table i k l;
             beyond = λ i k l. joins_as i k ∙ joins_none s table i k (λ b. absurd (omega (arith, l, b.below)));
             by_confidence =

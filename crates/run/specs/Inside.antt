@@ -27,7 +27,7 @@ use Rattle.std.specs.Prelude.{
   take,
   drop,
 }
-use Rattle.counting.specs.Count.{front}
+use Rattle.counting.specs.Count.{any, build, front}
 use Rattle.counting.specs.Refuse.{first_of}
 use Rattle.counting.specs.Refuse.Refusal.{refuse}
 use Rattle.counting.specs.Sets.{member, set_of}
@@ -35,11 +35,12 @@ use Rattle.sizes.specs.Sizes.{outside, too_many, stray, sound_zero}
 use Rattle.tally.specs.Reply.{choice_reply}
 use Rattle.gradecast.specs.Steps.{grade_row, confidence, support_for}
 use Rattle.gradecast.specs.Cast.{of_sound, cells}
+use Rattle.gradecast.specs.declared.Cast.{Cast}
 use Rattle.run.specs.declared.Joining.{Joining}
 use Rattle.run.specs.declared.Reason.{Reason}
 use Rattle.run.specs.declared.Reasons.{Reasons}
 use Rattle.run.specs.declared.Run.{Run}
-use Rattle.run.specs.Iteration.{joined}
+use Rattle.run.specs.Iteration.{entry, joined, reason_in}
 use Rattle.run.specs.State.{bad_reason, bad_state, overdone}
 use Rattle.run.specs.Why.{not_asked, no_box}
 
@@ -54,30 +55,42 @@ pub record GradesOf (s : Run) (table rows confidences supports : List ℕ) : Typ
       supports ≡ cells s.n
       (of_sound s.faulty (support_for s.n s.t s.faulty s.rows s.lists table))
 
--- the sizes that step 5 counts on
-pub record AllCells (n : ℕ) (rows confidences : List ℕ) : Type 0 where
-  pub low : 1 ≤ n
-  pub high : n ≤ 13
-  pub all_rows : length rows ≡ 169
-  pub all_confidences : length confidences ≡ 169
-
 -- what box i found for leader k, of n
 unfoldable pub cell_of : ℕ → List ℕ → ℕ → ℕ → ℕ
 cell_of n cells i k = get_or cells (i * n + k) 0
 
--- the new row of box i, from the rows and the confidences in 169 places
-unfoldable pub row_from : ℕ → ℕ → List ℕ → List ℕ → ℕ → ℕ
-row_from n old rows confidences i =
-    let chosen = (choice_reply (take n (drop (i * n) rows)) (take n (drop (i * n) confidences))).row in
+-- what box i found, one of n parts of the places
+abbrev pub part : ℕ → List ℕ → ℕ → List ℕ
+part n cells i = take n (drop (i * n) cells)
+
+-- the new row of a box, from the rows and the confidences that it found
+unfoldable pub row_from : ℕ → List ℕ → List ℕ → ℕ
+row_from old rows confidences =
+    let chosen = (choice_reply rows confidences).row in
     cond (eqb chosen 0) old chosen
 
--- the new list of box i, from the confidences in 169 places
-unfoldable pub list_from : ℕ → ℕ → List ℕ → ℕ → ℕ
-list_from n old confidences i = set_of n (λ k. member old k || ltb (cell_of n confidences i k) 2)
+-- the new list of a box, from the confidences that it found
+unfoldable pub list_from : ℕ → List ℕ → ℕ
+list_from old confidences = set_of (length confidences) (λ k. member old k || ltb (get_or confidences k 0) 2)
+
+-- the rows and the lists after an iteration, from the reply of steps 1 to 4
+abbrev pub rows_from : Run → Cast → List ℕ
+rows_from s cast =
+    build 13
+    (entry s.n s.faulty
+    (λ i. row_from (get_or s.rows i 0) (part s.n cast.rows i) (part s.n cast.confidences i)))
+
+abbrev pub lists_from : Run → Cast → List ℕ
+lists_from s cast =
+    build 13 (entry s.n s.faulty (λ i. list_from (get_or s.lists i 0) (part s.n cast.confidences i)))
 
 -- box k is listed, with a bad reason
 unfoldable pub bad_listing : ℕ → ℕ → ℕ → (ℕ → Reason) → ℕ → Bool
 bad_listing t done list why k = member list k && bad_reason t done true (why k)
+
+-- some box on the list of box i is listed with a bad reason
+abbrev pub bad_box : ℕ → ℕ → ℕ → Reasons → ℕ → Bool
+bad_box t done list reasons i = any 13 (bad_listing t done list (λ k. reason_in reasons (13 * i + k)))
 
 -- box k joins the list of box i
 unfoldable pub joins_in : Joining → ℕ → ℕ → Bool
@@ -106,10 +119,8 @@ kept_reasons j confidences supports reasons =
 
 -- what the lists before and after an iteration have to do with the confidences: none but the n boxes joins or is
 -- joined, and where a list has changed, those joined that have confidence 0 or 1 and were not on it
-pub record Keeping (j : Joining) (confidences supports : List ℕ) : Type 0 where
+pub record Keeping (j : Joining) (confidences : List ℕ) : Type 0 where
   pub high : j.n ≤ 13
-  pub all_confidences : length confidences ≡ 169
-  pub all_supports : length supports ≡ 169
   pub within : (i k : ℕ) → j.n ≤ k → joins_in j i k ≡ false
   pub beyond : (i k : ℕ) → j.n ≤ i → joins_in j i k ≡ false
   pub by_confidence : (i k : ℕ) → i < j.n → k < j.n → (get_or j.old i 0 ≡ get_or j.new i 0 → ⊥) →

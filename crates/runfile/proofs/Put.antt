@@ -1,12 +1,12 @@
--- Bytes written into a slice: how long the bytes of numbers and rows are, eight stores write the bytes of one row, and
--- a text that follows another makes one longer text. Assumes nothing.
+-- Bytes written into a slice: how long the bytes of numbers and rows are, what the bytes of one row are, and a text
+-- that is copied to a place and one that follows another. Assumes nothing.
 use mathlib.Core.Path.{◌≡◌, refl, sym, ap, ap₂, ◌∙◌}
 use mathlib.Core.List.{List, [], ◌∷◌, ◌++◌, append_assoc, append-nil}
 use Prim.Native.Nat.{ℕ, zero, suc, ◌+◌, ◌*◌, ◌/◌, ◌%◌, ◌≤◌}
 use native.Mathlib.Numerals.{add-one}
 use native.Mathlib.Omega.{arith}
-use lib.ListN.{length, get_or, take, drop, set, length-append, take-append-drop}
-use lib.Seq.{length-take-le, take_at, drop-append-add, drop-drop, sets-eq}
+use lib.ListN.{length, get_or, take, drop, length-append, take-append-drop}
+use lib.Seq.{length-take-le, take_at, drop-append-add, drop-drop}
 use Rattle.runfile.specs.File.{in_bytes, rows_in_bytes}
 use Rattle.runfile.specs.Inside.{first_nine}
 use Rattle.runfile.specs.Write.{put_from, heading_file, at_front}
@@ -52,29 +52,13 @@ eight_bytes row =
 front_long : (at : ℕ) (s xs : List ℕ) → at ≤ length xs → length (take at xs ++ s) ≡ at + length s
 front_long at s xs l = length-append (take at xs) s ∙ omega (arith, length-take-le at xs l)
 
--- eight stores, one behind the other
-pub put_eight : (at : ℕ) (xs : List ℕ) (a b c d e f g h : ℕ) → at + 8 ≤ length xs →
-    set
-    (set
-    (set (set (set (set (set (set xs at a) (at + 1) b) (at + 2) c) (at + 3) d) (at + 4) e) (at + 5) f)
-    (at + 6)
-    g)
-    (at + 7)
-    h
-    ≡ put_from at (a ∷ b ∷ c ∷ d ∷ e ∷ f ∷ g ∷ h ∷ []) xs
+-- a text between what lies before and behind it
+pub put_text : (at end : ℕ) (text xs : List ℕ) → at ≤ length xs → end ≡ at + length text →
+    take at xs ++ (text ++ drop end xs) ≡ put_from at text xs
 unfolding put_from at_front
-put_eight at xs a b c d e f g h l =
-    let p1 : at + 1 ≡ suc at = omega arith in
-    let p2 : at + 2 ≡ suc (suc at) = omega arith in
-    let p3 : at + 3 ≡ suc (suc (suc at)) = omega arith in
-    let p4 : at + 4 ≡ suc (suc (suc (suc at))) = omega arith in
-    let p5 : at + 5 ≡ suc (suc (suc (suc (suc at)))) = omega arith in
-    let p6 : at + 6 ≡ suc (suc (suc (suc (suc (suc at))))) = omega arith in
-    let p7 : at + 7 ≡ suc (suc (suc (suc (suc (suc (suc at)))))) = omega arith in
-    let text = a ∷ b ∷ c ∷ d ∷ e ∷ f ∷ g ∷ h ∷ [] in
-    let long = front_long at text xs (omega arith) in
-    rw (p1, p2, p3, p4, p5, p6, p7) (sets-eq text xs at l)
-    ∙ ap (λ (m : ℕ). take at xs ++ text ++ drop m xs) (sym long)
+put_text at end text xs l e =
+    sym (append_assoc (take at xs) text (drop end xs))
+    ∙ ap (λ (m : ℕ). take at xs ++ text ++ drop m xs) (e ∙ sym (front_long at text xs l))
 
 -- nothing written
 pub put_none : (at : ℕ) (xs : List ℕ) → at ≤ length xs → xs ≡ put_from at [] xs

@@ -1,28 +1,20 @@
 -- What the tests of a line `say` say: a number within a limit, the numbers that fit a step, and the line that is
 -- understood, both ways. Assumes nothing.
-use mathlib.Core.Path.{◌≡◌, refl, sym, ◌∙◌}
+use mathlib.Core.Path.{◌≡◌, sym, ◌∙◌}
 use mathlib.Core.Bool.{Bool, true, false, ◌&&◌}
 use mathlib.Core.List.{List}
 use mathlib.Core.Logic.{⊎_elim}
-use Prim.Native.Nat.{ℕ, ◌+◌, ◌≤◌, ◌<◌}
+use Prim.Native.Nat.{ℕ, ◌+◌, ◌<◌}
 use native.Mathlib.Omega.{arith}
 use lib.Dec.{eqb, leb}
 use lib.ListN.{length}
-use borrow.Author.Tests.{le-leb, lt-leb, leb-true, eqb-true, eqb-false, eq-eqb, ne_eqb}
+use borrow.Author.Tests.{le-leb, leb-true, eqb-true, eqb-false, eq-eqb, ne_eqb}
 use Rattle.counting.proofs.Bools.{either, both, not_both, and_left, and_right, and_false_right, cond_true, cond_false}
 use Rattle.says.specs.Say.{within, iteration_in, step_in, sender_in, receiver_in, leader_in, fits_step, is_meant}
 use Rattle.says.specs.Inside.{Among, Meant}
 
 -- a number within 1 to a limit, both ways
 module _ (limit number : ℕ) where
-  pub within_none : number < 1 → within limit number ≡ false
-  unfolding within
-  within_none h = not_both (leb number limit) (lt-leb 1 number h)
-
-  pub within_some : 1 ≤ number → within limit number ≡ leb number limit
-  unfolding within
-  within_some h = rw (le-leb 1 number h) refl
-
   pub within_among : within limit number ≡ true → Among limit number
   unfolding within
   within_among e =
@@ -60,6 +52,33 @@ module _ (n : ℕ) (numbers : List ℕ) where
       (not_both (within n (leader_in numbers)) (ne_eqb (length numbers) 6 (λ e. omega (arith, e)))))
       (either (eqb (step_in numbers) 1))
 
+  -- as many numbers as the step asks, and in steps 2 and 3 a leader
+  module _ (fits : fits_step n numbers ≡ true) where
+    pub fits_five : step_in numbers ≡ 1 → length numbers ≡ 5
+    fits_five one = eqb-true (length numbers) 5 (sym (fits_first one) ∙ fits)
+
+    abbrev leading : Bool
+    leading = eqb (length numbers) 6 && within n (leader_in numbers)
+
+    module _ (d : step_in numbers ≡ 1 → ⊥) where
+      all_six : six ≡ true
+      all_six = sym (fits_later d) ∙ fits
+
+      pub fits_among : Among 3 (step_in numbers)
+      fits_among = within_among _ _ (and_left (within 3 (step_in numbers)) leading all_six)
+
+      pub fits_six : length numbers ≡ 6
+      fits_six =
+          eqb-true (length numbers) 6
+          (and_left (eqb (length numbers) 6) (within n (leader_in numbers))
+          (and_right (within 3 (step_in numbers)) leading all_six))
+
+      pub fits_leader : Among n (leader_in numbers)
+      fits_leader =
+          within_among _ _
+          (and_right (eqb (length numbers) 6) (within n (leader_in numbers))
+          (and_right (within 3 (step_in numbers)) leading all_six))
+
 -- a line that is understood, both ways
 module _ (n t : ℕ) (numbers : List ℕ) where
   pub all_meant : fits_step n numbers ≡ true → Among (t + 1) (iteration_in numbers) → Among n (sender_in numbers) →
@@ -73,25 +92,15 @@ module _ (n t : ℕ) (numbers : List ℕ) where
     abbrev ranges : Bool
     ranges = within (t + 1) (iteration_in numbers) && (within n (sender_in numbers) && within n (receiver_in numbers))
 
-    fitting : fits_step n numbers ≡ true
+    pub fitting : fits_step n numbers ≡ true
     unfolding is_meant
     fitting = and_left (fits_step n numbers) ranges e
 
-    -- as many numbers as the step asks
     pub meant_five : step_in numbers ≡ 1 → length numbers ≡ 5
-    meant_five one = eqb-true (length numbers) 5 (sym (fits_first n numbers one) ∙ fitting)
-
-    meant_later : (step_in numbers ≡ 1 → ⊥) → six n numbers ≡ true
-    meant_later d = sym (fits_later n numbers d) ∙ fitting
-
-    abbrev leading : Bool
-    leading = eqb (length numbers) 6 && within n (leader_in numbers)
+    meant_five = fits_five n numbers fitting
 
     pub meant_six : (step_in numbers ≡ 1 → ⊥) → length numbers ≡ 6
-    meant_six d =
-        eqb-true (length numbers) 6
-        (and_left (eqb (length numbers) 6) (within n (leader_in numbers))
-        (and_right (within 3 (step_in numbers)) leading (meant_later d)))
+    meant_six = fits_six n numbers fitting
 
     pub meant_of : Meant n t numbers
     unfolding is_meant
@@ -114,15 +123,9 @@ module _ (n t : ℕ) (numbers : List ℕ) where
               (λ yes.
               let one = eqb-true (step_in numbers) 1 yes in
               record { low = omega (arith, one); high = omega (arith, one) })
-              (λ no.
-              within_among _ _
-              (and_left (within 3 (step_in numbers)) leading (meant_later (eqb-false (step_in numbers) 1 no))))
+              (λ no. fits_among n numbers fitting (eqb-false (step_in numbers) 1 no))
               first;
           sender = within_among _ _ (and_left sender receiver boxes);
           receiver = within_among _ _ (and_right sender receiver boxes);
-          leader =
-              λ d.
-              within_among _ _
-              (and_right (eqb (length numbers) 6) (within n (leader_in numbers))
-              (and_right (within 3 (step_in numbers)) leading (meant_later d)));
+          leader = fits_leader n numbers fitting;
         }

@@ -8,14 +8,14 @@ use native.Mathlib.Nat.{le_refl, suc-mul, mul-le-mul_right}
 use native.Mathlib.Decide.{ℕ_discrete}
 use native.Mathlib.Omega.{arith}
 use lib.Dec.{eqb, ltb}
-use lib.ListN.{length, get_or, take, drop, length-drop}
+use lib.ListN.{length, get_or, take, drop}
 use borrow.Author.Tests.{lt-ltb, le-ltb, lt-leb, le-leb, ltb-false, eq-eqb, ne_eqb}
 use Rattle.counting.proofs.Bools.{cond_true, cond_false}
 use Rattle.counting.proofs.Build.{get_or_build, front_take}
 use Rattle.sizes.specs.Sizes.{table_rows}
 use Rattle.sizes.proofs.Laws.{inside}
 use Rattle.lines.specs.declared.Written.{Written}
-use Rattle.lines.specs.Line.{line_of, line_writes, placed}
+use Rattle.lines.specs.Line.{line_of, placed}
 use Rattle.lines.proofs.Lines.{line_length, fields_most, line_given, line_written}
 use Rattle.lines.proofs.Placed.{rest_whole, rest_none, placed_within}
 use Rattle.runfile.specs.File.{table_row}
@@ -106,36 +106,39 @@ module _ (n table place row : ℕ) (low : 1 ≤ n) (high : n ≤ 13) (few : tabl
   pub say_most : length (say_line n table place row) ≤ 40
   say_most = say_short n table place row high few below fits
 
-  -- what the call that writes it says, over what lies from a place of the slice on
-  pub say_size : (r : Written) (xs : List ℕ) (at : ℕ) → at + 40 ≤ length xs →
-      r ≡ say_reply n table place row (length (take (length xs - at) (drop at xs))) →
+  -- what the call that writes it says
+  pub say_size : (r : Written) (room : ℕ) → 40 ≤ room → r ≡ say_reply n table place row room →
       r.size ≡ length (say_line n table place row)
   unfolding say_reply say_line
-  say_size r xs at room e =
-      let long = ap length (rest_whole xs at) in
+  say_size r room enough e =
       ap (λ (w : Written). w.size)
       (e
       ∙ cond_false _ _ (inside n low high)
-      ∙ sym (line_given say_word (say_numbers n table place row) _ (omega (arith, say_most, long, length-drop at xs))))
+      ∙ sym (line_given say_word (say_numbers n table place row) _ (omega (arith, say_most))))
 
-  pub say_put : (r : Written) (xs ys : List ℕ) (at : ℕ) → at + 40 ≤ length xs →
-      r ≡ say_reply n table place row (length (take (length xs - at) (drop at xs))) →
-      ys ≡ say_writes n table place row (take (length xs - at) (drop at xs)) →
-      Put xs (take at xs ++ (ys ++ drop (length xs - at) (drop at xs))) at (at + r.size) (say_line n table place row)
+  pub say_put : (r : Written) (xs ys : List ℕ) → 40 ≤ length xs → r ≡ say_reply n table place row (length xs) →
+      ys ≡ say_writes n table place row xs → Put xs ys 0 r.size (say_line n table place row)
   unfolding say_writes say_line
-  say_put r xs ys at room e w =
+  say_put r xs ys enough e w =
       record {
-        ends = ap (λ (k : ℕ). at + k) (say_size r xs at room e);
+        ends = say_size r (length xs) enough e ∙ omega arith;
         stands =
-            ap (λ (zs : List ℕ). take at xs ++ zs)
-            (rest_none xs ys at
-            ∙ w
+            w
             ∙ cond_false _ _ (inside n low high)
-            ∙ ap (line_writes say_word (say_numbers n table place row)) (rest_whole xs at)
-            ∙ line_written say_word (say_numbers n table place row) (drop at xs)
-            (omega (arith, say_most, length-drop at xs)))
-            ∙ placed_within xs at (say_line n table place row);
+            ∙ line_written say_word (say_numbers n table place row) xs (omega (arith, say_most));
       }
+
+-- a text put at the front of what lies from a place of a slice on is put at the place
+pub put_within : (xs ys text : List ℕ) (at size : ℕ) → Put (take (length xs - at) (drop at xs)) ys 0 size text →
+    Put xs (take at xs ++ (ys ++ drop (length xs - at) (drop at xs))) at (at + size) text
+put_within xs ys text at size p =
+    record {
+      ends = omega (arith, p.ends);
+      stands =
+          ap (λ (zs : List ℕ). take at xs ++ zs)
+          (rest_none xs ys at ∙ p.stands ∙ ap (λ (zs : List ℕ). placed zs 0 text) (rest_whole xs at))
+          ∙ placed_within xs at text;
+    }
 
 -- the line of a place: none where it holds 0
 pub place_none : (n table place row : ℕ) → row ≡ 0 → place_text n table place row ≡ []

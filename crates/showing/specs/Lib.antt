@@ -1,1 +1,2 @@
 pub mod Show
+pub mod Inside

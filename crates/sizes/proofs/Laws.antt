@@ -1,7 +1,7 @@
 -- What the tests for refusals 4, 5 and 6 say, and the rule of a table by n: one computed test, and the law that turns
 -- it into the formula at every n. Assumes nothing.
 use mathlib.Core.Path.{◌≡◌, refl, sym, ap, ◌∙◌, subst}
-use mathlib.Core.Bool.{Bool, true, false, not}
+use mathlib.Core.Bool.{Bool, true, false, not, ◌&&◌}
 use mathlib.Core.List.{List, [], ◌∷◌}
 use Prim.Native.Nat.{ℕ, ◌+◌, ◌-◌, ◌*◌, ◌/◌, ◌^◌, ◌≤◌, ◌<◌}
 use mathlib.Core.Logic.{⊎_elim}
@@ -9,14 +9,15 @@ use native.Mathlib.Nat.{div-eq_of_lt, div-lt_iff_lt-mul, lt_of_lt_of_le, mul-le-
 use native.Mathlib.Omega.{arith}
 use lib.Pow.{pow_pos, pow_mono}
 use lib.Dec.{eqb, leb, ltb}
-use lib.ListN.{get_or}
+use lib.ListN.{length, get_or, take}
+use Rattle.std.proofs.lemmas.List.{length-take-le, get_or-take}
 use borrow.Author.Tests.{lt-ltb, le-ltb, le-leb, lt-leb, ltb-false, leb-true, leb-false, eqb-true, eq-eqb, ne_eqb}
 use Rattle.counting.specs.Count.{any}
 use Rattle.counting.specs.Refuse.{Refusal, first_of}
 use Rattle.counting.specs.Refuse.Refusal.{refuse}
 use Rattle.counting.specs.Sets.{member}
 use Rattle.counting.proofs.Refuse.{passed, accepted, refused_first}
-use Rattle.counting.proofs.Count.{any_none}
+use Rattle.counting.proofs.Count.{any_none, any_ext}
 use Rattle.counting.proofs.Bools.{
   either,
   not_of_true,
@@ -30,7 +31,18 @@ use Rattle.counting.proofs.Bools.{
   or_false_right,
   not_false,
 }
-use Rattle.sizes.specs.Sizes.{Sized, outside, too_many, stray, size_refusal, largest_t, table_rows, by_n}
+use Rattle.sizes.specs.Sizes.{
+  Sized,
+  outside,
+  too_many,
+  stray,
+  sound,
+  sound_zero,
+  size_refusal,
+  largest_t,
+  table_rows,
+  by_n,
+}
 
 -- refusal 4, both ways
 pub inside : (n : ℕ) → 1 ≤ n → n ≤ 13 → outside n ≡ false
@@ -184,3 +196,11 @@ module _ {n : ℕ} (high : n ≤ 13) where
   pub table_le : table_rows n ≤ 4563
   unfolding table_rows
   table_le = omega (arith, square_le, cube_le)
+
+-- the rows of n boxes, and all that stands in a longer slice, have the same zeros among the first n
+pub sound_zero_front : (n faulty : ℕ) (rows : List ℕ) → n ≤ length rows →
+    sound_zero (length (take n rows)) faulty (take n rows) ≡ sound_zero n faulty rows
+unfolding sound_zero
+sound_zero_front n faulty rows h =
+    rw (length-take-le n rows h)
+    (any_ext n _ _ (λ k l. ap (λ (row : ℕ). sound faulty k && eqb row 0) (get_or-take n rows k 0 l)))

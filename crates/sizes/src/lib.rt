@@ -1,9 +1,14 @@
 // What n, t and a set of boxes may be: the two rows of constants by n, and the tests that more than one crate makes.
 #![tactic(auto)]
 
-ghost use Rattle.std.specs.Prelude.{◌≡◌, ◌&&◌, eqb};
+mod refusal;
+
+ghost use Rattle.std.specs.Prelude.{◌≡◌, ◌&&◌, eqb, length};
 ghost use Rattle.counting.specs.Sets.{member};
-ghost use Rattle.sizes.specs.Sizes.{stray, sound, by_n, largest_t, table_rows, size_refusal};
+ghost use Rattle.sizes.specs.Numbers.{refusal_in};
+ghost use Rattle.sizes.specs.Sizes.{stray, sound, sound_zero, by_n, largest_t, table_rows, size_refusal};
+
+pub use refusal::{Refusal, refusal_number};
 
 // The largest t with 3t less than n, for n = 1 to 13.
 const LARGEST_T: [u8; 13] = [0, 0, 0, 1, 1, 1, 2, 2, 2, 3, 3, 3, 4];
@@ -24,6 +29,7 @@ pub fn largest_t(n: u8) -> u8
 }
 
 // The rows in one iteration's table for n boxes, and 0 where n is outside 1 to 13.
+// Stays: beside largest_t, since each has its match on n's range (docs/DECISIONS.md, "Forms").
 pub fn table_rows(n: u8) -> usize
     ensures { result ≡ by_n table_rows n }
 {
@@ -33,49 +39,60 @@ pub fn table_rows(n: u8) -> usize
     }
 }
 
-// Refusals 4 and 5, which every call with n boxes, or n rows, and t can meet.
-pub fn size_refusal(n: usize, t: u8) -> u8
-    ensures { result ≡ size_refusal n t }
+// Tests n boxes, or n rows, and t: refusals 4 and 5.
+pub fn check_size(n: usize, t: u8) -> Result<(), Refusal>
+    ensures { refusal_in result ≡ size_refusal n t }
 {
     if n < 1 {
-        return 4;
+        return Err(Refusal::Outside);
     }
     let above = 13 < n;
     if above {
-        return 4;
+        return Err(Refusal::Outside);
     }
-    if n <= 3 * (t as usize) {
-        return 5;
+    if n <= 3 * usize::from(t) {
+        return Err(Refusal::TooMany);
     }
-    0
+    Ok(())
+}
+
+// Refusals 4 and 5, which every call with n boxes, or n rows, and t can meet, by their numbers.
+// Stays: beside check_size, as the call of docs/SCOPE.md that gives the number.
+pub fn size_refusal(n: usize, t: u8) -> u8
+    ensures { result ≡ size_refusal n t }
+{
+    refusal_number(check_size(n, t))
 }
 
 // Is box k in the set? A set has 16 bits, so no box from place 16 on is.
 pub fn is_member(set: u16, k: usize) -> bool
     ensures { result ≡ member set k }
 {
-    if 15 < k {
-        return false;
-    }
-    (set >> k) % 2 == 1
+    k < 16 && (set >> k) % 2 == 1
 }
 
 // Refusal 6: has the set a bit at place n or above?
 pub fn is_stray(n: u8, set: u16) -> bool
     ensures { result ≡ stray n set }
 {
-    if 15 < n {
-        return false;
-    }
-    (set >> n) != 0
+    n < 16 && (set >> n) != 0
 }
 
 // Is the row of box k 0, though the box is sound?
 pub fn is_sound_zero(faulty: u16, k: usize, row: u64) -> bool
     ensures { result ≡ (sound faulty k && eqb row 0) }
 {
-    if is_member(faulty, k) {
-        return false;
+    !is_member(faulty, k) && row == 0
+}
+
+// Refusal 9: is some sound box's row 0?
+pub fn has_sound_zero(faulty: u16, rows: &[u64]) -> bool
+    ensures { result ≡ sound_zero (length rows.now) faulty rows.now }
+{
+    for (k, row) in rows.iter().enumerate() {
+        if is_sound_zero(faulty, k, *row) {
+            return true;
+        }
     }
-    row == 0
+    false
 }

@@ -3,13 +3,17 @@
 
 ghost use Rattle.std.specs.Prelude.{◌≡◌, cond, ◌&&◌, ◌*◌, ◌≤◌, ◌<◌, length, take, eqb, ltb};
 ghost use Rattle.counting.specs.Most.{places, support, before, most};
+ghost use Rattle.sizes.specs.Numbers.{refusal_in};
 ghost use Rattle.tally.specs.Tally.{carried, vote_of, confidence_at, counted, firm_for, above2};
 ghost use Rattle.tally.specs.Reply.{vote_reply, grade_reply, choice_refusal, choice_reply};
 ghost use Rattle.tally.specs.Inside.{lead_of};
 
+use sizes::Refusal;
+
 // The reply of a vote: the row that stands at least n − t times, or 0.
 #[derive(Clone, Copy)]
 pub struct Voted {
+    // Stays: a number, since by docs/SCOPE.md a reply carries 0 where nothing is refused.
     pub refusal: u8,
     pub row: u64,
 }
@@ -18,6 +22,7 @@ pub struct Voted {
 // where the confidence is 0 and the row with it.
 #[derive(Clone, Copy)]
 pub struct Graded {
+    // Stays: a number, since by docs/SCOPE.md a reply carries 0 where nothing is refused.
     pub refusal: u8,
     pub row: u64,
     pub confidence: u8,
@@ -27,6 +32,7 @@ pub struct Graded {
 // The reply of a choice: the chosen row, and how many leaders with confidence 2 hold it.
 #[derive(Clone, Copy)]
 pub struct Chosen {
+    // Stays: a number, since by docs/SCOPE.md a reply carries 0 where nothing is refused.
     pub refusal: u8,
     pub row: u64,
     pub firm: usize,
@@ -39,22 +45,14 @@ struct Lead {
     support: usize,
 }
 
-// 1 where the two rows are the same, else 0.
-fn one_if_same(a: u64, b: u64) -> usize
-    ensures { result ≡ cond (eqb a b) 1 0 }
-{
-    if a == b { 1 } else { 0 }
-}
-
 // How many places of rows hold v.
+// Stays: a loop, since with `filter` and `count` a vote, a grade and a choice take a sixth more instructions.
 fn places_of(rows: &[u64], v: u64) -> usize
     ensures { result ≡ places rows.now v }
 {
-    let mut found: usize = 0;
-    let mut i: usize = 0;
-    while i < rows.len() {
-        found += one_if_same(rows[i], v);
-        i += 1;
+    let mut found = 0;
+    for row in rows {
+        found += usize::from(*row == v);
     }
     found
 }
@@ -64,25 +62,21 @@ fn is_carried(rows: &[u64], t: u8, v: u64) -> bool
     requires { t ≤ length rows.now }
     ensures { result ≡ carried t rows.now v }
 {
-    if v == 0 {
-        return false;
-    }
-    rows.len() - (t as usize) <= places_of(rows, v)
+    v != 0 && rows.len() - (t as usize) <= places_of(rows, v)
 }
 
 // The non-zero row that stands at least n − t times, or 0. It is missing from at most t places, so it is one of the
 // first t + 1. No second row can stand so often, so the first one found is the vote.
+// Stays: 0 and no Option, here and for a lead, since a row of 0 means nothing everywhere (docs/SCOPE.md, "Numbers").
 fn vote_of(rows: &[u64], t: u8) -> u64
     requires { 3 * t < length rows.now }
     ensures { result ≡ vote_of t rows.now }
 {
-    let last = t as usize;
-    let mut i: usize = 0;
-    while i <= last {
-        if is_carried(rows, t, rows[i]) {
-            return rows[i];
+    let first = t as usize + 1;
+    for row in &rows[..first] {
+        if is_carried(rows, t, *row) {
+            return *row;
         }
-        i += 1;
     }
     0
 }
@@ -92,25 +86,27 @@ fn vote_of(rows: &[u64], t: u8) -> u64
 pub fn vote(rows: &[u64], t: u8) -> Voted
     ensures { result ≡ vote_reply rows.now t }
 {
-    let refusal = sizes::size_refusal(rows.len(), t);
-    if refusal != 0 {
-        return Voted { refusal, row: 0 };
+    match sizes::check_size(rows.len(), t) {
+        Err(refusal) => Voted {
+            refusal: u8::from(refusal),
+            row: 0,
+        },
+        Ok(()) => {
+            let row = vote_of(rows, t);
+            Voted { refusal: 0, row }
+        }
     }
-    let row = vote_of(rows, t);
-    Voted { refusal: 0, row }
 }
 
 // The support of v: its places, and none for 0.
 fn support_of(rows: &[u64], v: u64) -> usize
     ensures { result ≡ support rows.now v }
 {
-    if v == 0 {
-        return 0;
-    }
-    places_of(rows, v)
+    if v == 0 { 0 } else { places_of(rows, v) }
 }
 
 // Whichever of the lead and v has more support, the lower on a tie.
+// Stays: tests, since with a match on `cmp` a vote, a grade and a choice take a fourteenth more instructions.
 fn ahead(rows: &[u64], lead: Lead, v: u64) -> Lead
     requires { lead ≡ lead_of rows.now lead.row }
     ensures { result ≡ lead_of rows.now (cond (before rows.now lead.row v) v lead.row) }
@@ -138,14 +134,12 @@ fn lead_of(rows: &[u64]) -> Lead
     ensures { result ≡ lead_of rows.now (most rows.now) }
 {
     let mut lead = Lead { row: 0, support: 0 };
-    let mut i: usize = 0;
-    while i < rows.len() {
-        lead = ahead(rows, lead, rows[i]);
+    for (i, row) in rows.iter().enumerate() {
+        lead = ahead(rows, lead, *row);
         if rows.len() / 2 < lead.support {
             return lead;
         }
-        i += 1;
-        if rows.len() - i < lead.support {
+        if rows.len() - i <= lead.support {
             return lead;
         }
     }
@@ -153,6 +147,7 @@ fn lead_of(rows: &[u64]) -> Lead
 }
 
 // The confidence that a support gives.
+// Stays: a number and no enum, since a choice takes any confidence and refuses those above 2 by 13 (docs/SCOPE.md).
 pub fn confidence_at(support: u8, t: u8) -> u8
     ensures { result ≡ confidence_at t support }
 {
@@ -170,10 +165,9 @@ pub fn confidence_at(support: u8, t: u8) -> u8
 pub fn grade(rows: &[u64], t: u8) -> Graded
     ensures { result ≡ grade_reply rows.now t }
 {
-    let refusal = sizes::size_refusal(rows.len(), t);
-    if refusal != 0 {
+    if let Err(refusal) = sizes::check_size(rows.len(), t) {
         return Graded {
-            refusal,
+            refusal: u8::from(refusal),
             row: 0,
             confidence: 0,
             support: 0,
@@ -214,11 +208,9 @@ fn counted_rows(rows: &[u64], confidences: &[u8]) -> [u64; 13]
     ensures { (length result ≡ 13) ×
         (take (length rows.now) result ≡ counted rows.now confidences.now) }
 {
-    let mut out = [0u64; 13];
-    let mut i: usize = 0;
-    while i < rows.len() {
-        out[i] = counted_row(rows[i], confidences[i]);
-        i += 1;
+    let mut out = [0; 13];
+    for (i, row) in rows.iter().enumerate() {
+        out[i] = counted_row(*row, confidences[i]);
     }
     out
 }
@@ -237,42 +229,40 @@ fn is_above2(confidence: u8) -> bool
 fn has_above2(confidences: &[u8]) -> bool
     ensures { result ≡ above2 confidences.now }
 {
-    let mut i: usize = 0;
-    while i < confidences.len() {
-        if is_above2(confidences[i]) {
+    for confidence in confidences {
+        if is_above2(*confidence) {
             return true;
         }
-        i += 1;
     }
     false
 }
 
-// Refusals 4, 11 and 13 of a choice.
-fn choice_refusal(rows: &[u64], confidences: &[u8]) -> u8
-    ensures { result ≡ choice_refusal rows.now confidences.now }
+// Tests a choice: refusals 4, 11 and 13.
+fn check_choice(rows: &[u64], confidences: &[u8]) -> Result<(), Refusal>
+    ensures { refusal_in result ≡ choice_refusal rows.now confidences.now }
 {
     if rows.len() < 1 {
-        return 4;
+        return Err(Refusal::Outside);
     }
     if 13 < rows.len() {
-        return 4;
+        return Err(Refusal::Outside);
     }
     if rows.len() != confidences.len() {
-        return 11;
+        return Err(Refusal::WrongLength);
     }
     if has_above2(confidences) {
-        return 13;
+        return Err(Refusal::Above2);
     }
-    0
+    Ok(())
 }
 
-// 1 for a leader with confidence 2 that holds the chosen row, else 0.
-fn one_if_firm(row: u64, confidence: u8, chosen: u64) -> usize
-    ensures { result ≡ cond (eqb confidence 2 && eqb row chosen) 1 0 }
+// Is this a leader with confidence 2 that holds the chosen row?
+fn is_firm(row: u64, confidence: u8, chosen: u64) -> bool
+    ensures { result ≡ (eqb confidence 2 && eqb row chosen) }
 {
     match confidence {
-        2 => one_if_same(row, chosen),
-        _ => 0,
+        2 => row == chosen,
+        _ => false,
     }
 }
 
@@ -281,24 +271,22 @@ fn firm_for(rows: &[u64], confidences: &[u8], chosen: u64) -> usize
     requires { length rows.now ≡ length confidences.now }
     ensures { result ≡ firm_for rows.now confidences.now chosen }
 {
-    let mut firm: usize = 0;
-    let mut i: usize = 0;
-    while i < rows.len() {
-        firm += one_if_firm(rows[i], confidences[i], chosen);
-        i += 1;
+    let mut firm = 0;
+    for (i, row) in rows.iter().enumerate() {
+        firm += usize::from(is_firm(*row, confidences[i], chosen));
     }
     firm
 }
 
 // The choice of step 5: the row held by the most leaders with confidence 1 or 2, the lowest on a tie, and how many
 // leaders with confidence 2 hold it. Refusals 4, 11, 13.
+// Stays: rows and confidences come in two slices, of which 11 says that their lengths differ (docs/SCOPE.md).
 pub fn choose(rows: &[u64], confidences: &[u8]) -> Chosen
     ensures { result ≡ choice_reply rows.now confidences.now }
 {
-    let refusal = choice_refusal(rows, confidences);
-    if refusal != 0 {
+    if let Err(refusal) = check_choice(rows, confidences) {
         return Chosen {
-            refusal,
+            refusal: u8::from(refusal),
             row: 0,
             firm: 0,
         };

@@ -1,126 +1,131 @@
-// Answers the requests of docs/REQUESTS.md of kinds 21 to 33, 36 and 37, as `replies` answers the others: calls each
-// public function that writes a run file, reads a line, turns a text into a file or a file into a text, or says in a
-// line why a box is listed, on any numbers and any bytes, and prints every field of its reply and every place of what
-// was lent to it. The rows of a request are read by `runfile::read_part`, which `replies` tries.
+// Answers the requests of docs/REQUESTS.md of kinds 21 to 33, 36 and 37, as `replies` answers the
+// others: calls each public function that writes a run file, reads a line, turns a text into a
+// file or a file into a text, or says in a line why a box is listed, on any numbers and any bytes,
+// and prints every field of its reply and every place of what was lent to it. The rows of a
+// request are read by `runfile::read_part`, which `replies` tries.
+// Stays: what reads a request stands in `replies` too. Both could share it as public functions
+// alone, and no contract can say which bytes come (docs/DECISIONS.md, "Code"). `lend` and the two
+// functions that it is given stand there too: shared, those few lines would be a crate with
+// promises and edits of its own, for two programs that only the tests use.
 #![tactic(auto)]
 
-ghost use Rattle.std.specs.Prelude.{◌≡◌, ◌+◌, ◌*◌, ◌≤◌, ◌<◌, length};
+ghost use Rattle.std.specs.Prelude.{◌≡◌, ◌≤◌, length, IfSome};
 
 use making::Maker;
 
-// A byte as a number of 64 bits.
-fn wide(byte: u8) -> u64
-    ensures { result < 256 }
-{
-    byte as u64
+// Fills the bytes with those that come next. Here and below: None where the request is cut short
+// or asks for too much.
+fn fill(bytes: &mut [u8]) -> Option<()> {
+    let size = bytes.len();
+    (inout::fill(bytes, 0, size) == size).then_some(())
 }
 
-// Yes as 1, no as 0.
-fn truth(yes: bool) -> u64 {
-    if yes {
-        return 1;
+// The next N bytes.
+fn next_bytes<const N: usize>() -> Option<[u8; N]> {
+    let mut bytes = [0u8; N];
+    fill(&mut bytes)?;
+    Some(bytes)
+}
+
+// The number in the next byte.
+// Stays: a function for each width and no generic one, since a trait would have the same body for
+// each of them.
+fn next_u8() -> Option<u8> {
+    Some(u8::from_be_bytes(next_bytes()?))
+}
+
+// The number in the next two bytes. Here and below: most significant byte first.
+fn next_u16() -> Option<u16> {
+    Some(u16::from_be_bytes(next_bytes()?))
+}
+
+// The number in the next eight bytes.
+fn next_u64() -> Option<u64> {
+    Some(u64::from_be_bytes(next_bytes()?))
+}
+
+// The number in the next eight bytes, as a length or a place.
+fn next_usize() -> Option<usize> {
+    Some(usize::from_be_bytes(next_bytes()?))
+}
+
+// The length in the next two bytes, which has a limit.
+fn next_length(limit: usize) -> Option<usize>
+    ensures { IfSome result (λ length. length ≤ limit) }
+{
+    let length = usize::from(next_u16()?);
+    (length <= limit).then_some(length)
+}
+
+// The length in the next four bytes: of a run file or of its text.
+fn next_size() -> Option<usize>
+    ensures { IfSome result (λ size. size ≤ 200000) }
+{
+    let size = u32::from_be_bytes(next_bytes()?) as usize;
+    (size <= 200000).then_some(size)
+}
+
+// A maker.
+fn next_maker() -> Option<Maker> {
+    Some(Maker {
+        stage: next_u8()?,
+        n: next_u8()?,
+        t: next_u8()?,
+        faulty: next_u16()?,
+        lines: next_u64()?,
+        kept: next_usize()?,
+        refusal: next_u8()?,
+        fault: next_u8()?,
+    })
+}
+
+// What a lent place holds, the first of them 1: a row.
+// Stays: `as`, here and for other numbers of a usize, which has no `From` for u64.
+fn as_row(number: usize) -> u64 {
+    number as u64
+}
+
+// The same for a byte, with 0 behind 255.
+fn as_byte(number: usize) -> u8 {
+    (number % 256) as u8
+}
+
+// Puts 1, 2, 3 and so on into the first places, each as the function gives it, and lends these.
+fn lend<T: Copy, F: Fn(usize) -> T>(places: &mut [T], room: usize, put: F) -> &mut [T]
+    requires fits { room ≤ length places.old }
+    requires callable { F.IsAlwaysCallable put }
+    ensures { length result.now ≡ room }
+{
+    let lent = &mut places[..room];
+    for (k, place) in lent.iter_mut().enumerate() {
+        *place = put(k + 1);
     }
-    0
-}
-
-// The number in two bytes from a place on, most significant byte first.
-fn number2(bytes: &[u8], at: usize) -> u64
-    requires { at + 2 ≤ length bytes.now }
-    ensures { result < 65536 }
-{
-    wide(bytes[at]) * 256 + wide(bytes[at + 1])
-}
-
-// The number in four bytes.
-fn number4(bytes: &[u8], at: usize) -> u64
-    requires { at + 4 ≤ length bytes.now }
-    ensures { result < 4294967296 }
-{
-    number2(bytes, at) * 65536 + number2(bytes, at + 2)
-}
-
-// The number in eight bytes.
-fn number8(bytes: &[u8], at: usize) -> u64
-    requires { at + 8 ≤ length bytes.now }
-{
-    number4(bytes, at) * 4294967296 + number4(bytes, at + 4)
-}
-
-// Reads so many bytes to the front of the slice. Did all of them come?
-fn take(bytes: &mut [u8], size: usize) -> bool {
-    inout::fill(bytes, 0, size) == size
-}
-
-// Reads so many rows to the front of the slice, by way of the bytes. Did all of them come?
-fn take_rows(bytes: &mut [u8], count: usize, rows: &mut [u64]) -> bool
-    requires { count < 65536 }
-{
-    if !take(bytes, 8 * count) {
-        return false;
-    }
-    runfile::read_part(bytes, 0, count, rows) == 0
-}
-
-// Puts 1, 2, 3 and so on into the slice.
-fn count_up(rows: &mut [u64]) {
-    let mut k: usize = 0;
-    while k < rows.len() {
-        rows[k] = (k + 1) as u64;
-        k += 1;
-    }
-}
-
-// Puts 1, 2, 3 and so on into the slice of bytes, with 0 behind 255.
-fn count_up_bytes(bytes: &mut [u8]) {
-    let mut k: usize = 0;
-    while k < bytes.len() {
-        bytes[k] = ((k + 1) % 256) as u8;
-        k += 1;
-    }
+    lent
 }
 
 // Prints a word and numbers, and no newline.
 fn print_front(text: &mut [u8], word: &[u8], numbers: &[u64]) {
     let size = lines::write_line(text, word, numbers).size;
-    if size == 0 {
-        return;
+    if let Some([front @ .., _newline]) = text.get(..size) {
+        io::write_all(inout::STANDARD_OUTPUT, front);
     }
-    let end = size - 1;
-    io::write_all(inout::STANDARD_OUTPUT, &text[..end]);
 }
 
-// How many places are printed in one piece: at most a thousand of those that are left.
-fn piece(left: usize) -> usize
-    requires { 0 < left }
-    ensures { (0 < result) × (result ≤ left) × (result ≤ 1000) }
-{
-    if 1000 < left {
-        return 1000;
-    }
-    left
-}
-
-// Prints the first places of lent bytes, and gives their number.
-fn print_piece(text: &mut [u8], lent: &[u8]) -> usize
-    requires { 0 < length lent.now }
-    ensures { (0 < result) × (result ≤ length lent.now) }
+// Prints at most a thousand places of lent bytes.
+fn print_piece(text: &mut [u8], piece: &[u8])
+    requires { length piece.now ≤ 1000 }
 {
     let mut numbers = [0u64; 1000];
-    let count = piece(lent.len());
-    let mut k: usize = 0;
-    while k < count {
-        numbers[k] = wide(lent[k]);
-        k += 1;
+    for (number, byte) in numbers.iter_mut().zip(piece) {
+        *number = u64::from(*byte);
     }
-    print_front(text, b"", &numbers[0..count]);
-    count
+    print_front(text, b"", &numbers[..piece.len()]);
 }
 
 // Prints every place of lent bytes. They may be many, and the text has room for some.
 fn print_places(text: &mut [u8], lent: &[u8]) {
-    let mut at: usize = 0;
-    while at < lent.len() {
-        at += print_piece(text, &lent[at..]);
+    for piece in lent.chunks(1000) {
+        print_piece(text, piece);
     }
 }
 
@@ -131,486 +136,289 @@ fn print_bytes(text: &mut [u8], word: &[u8], reply: &[u64], lent: &[u8]) {
     io::write_all(inout::STANDARD_OUTPUT, b"\n");
 }
 
-// The head of a request: did all of it come, and the length of the slice to lend.
-#[derive(Clone, Copy)]
-struct Head {
-    whole: bool,
-    room: usize,
-}
-
-// Reads the head of a request, so many bytes. Its last two are the length of the slice to lend, which has a limit.
-fn take_head(bytes: &mut [u8], size: usize, limit: usize) -> Head
-    requires { (2 ≤ size) × (size ≤ length bytes.old) }
-    ensures { result.room ≤ limit }
-{
-    let none = Head {
-        whole: false,
-        room: 0,
-    };
-    if !take(bytes, size) {
-        return none;
-    }
-    let room = number2(bytes, size - 2) as usize;
-    if limit < room {
-        return none;
-    }
-    Head { whole: true, room }
-}
-
-// Prints the heading writer's reply.
-fn print_heading(n: u8, t: u8, faulty: u16, rows: &[u64], lent: &mut [u8], text: &mut [u8]) {
-    count_up_bytes(lent);
-    let wrote = runfile::write_heading(n, t, faulty, rows, lent);
-    print_bytes(
-        text,
-        b"headed",
-        &[wide(wrote.refusal), wrote.size as u64],
-        lent,
-    );
-}
-
-// The heading writer. Here and below: false where the request is cut short or asks for too much.
-fn answer_heading(bytes: &mut [u8], rows: &mut [u64], lent: &mut [u8], text: &mut [u8]) -> bool
-    requires { (length bytes.old ≡ 200000) × (length rows.old ≡ 5000) × (length lent.old ≡ 200000) }
-{
-    let head = take_head(bytes, 7, 5000);
-    let room = head.room;
-    let n = bytes[0];
-    let t = bytes[1];
-    let faulty = number2(bytes, 2) as u16;
-    let count = wide(bytes[4]) as usize;
-    if !head.whole {
-        return false;
-    }
-    if !take_rows(bytes, count, rows) {
-        return false;
-    }
-    print_heading(n, t, faulty, &rows[0..count], &mut lent[0..room], text);
-    true
-}
-
-// Prints the table writer's reply.
-fn print_table(n: u8, rows: &[u64], lent: &mut [u8], text: &mut [u8]) {
-    count_up_bytes(lent);
-    let wrote = runfile::write_table(n, rows, lent);
-    print_bytes(
-        text,
-        b"tabled",
-        &[wide(wrote.refusal), wrote.size as u64],
-        lent,
-    );
-}
-
-// The table writer.
-fn answer_table(bytes: &mut [u8], rows: &mut [u64], lent: &mut [u8], text: &mut [u8]) -> bool
-    requires { (length bytes.old ≡ 200000) × (length rows.old ≡ 5000) × (length lent.old ≡ 200000) }
-{
-    let head = take_head(bytes, 5, 40000);
-    let room = head.room;
-    let n = bytes[0];
-    let count = number2(bytes, 1) as usize;
-    if !head.whole {
-        return false;
-    }
-    if 5000 < count {
-        return false;
-    }
-    if !take_rows(bytes, count, rows) {
-        return false;
-    }
-    print_table(n, &rows[0..count], &mut lent[0..room], text);
-    true
-}
-
-// Prints the line reader's reply.
-fn print_read(line: &[u8], numbers: &mut [u64], text: &mut [u8]) {
-    count_up(numbers);
-    let words = lines::read_line(line, numbers);
-    print_front(
-        text,
-        b"read",
-        &[wide(words.refusal), words.word as u64, words.count as u64],
-    );
-    inout::print_line(text, b"", numbers);
-}
-
-// The line reader.
-fn answer_read(bytes: &mut [u8], rows: &mut [u64], text: &mut [u8]) -> bool
-    requires { (length bytes.old ≡ 200000) × (length rows.old ≡ 5000) }
-{
-    let head = take_head(bytes, 4, 5000);
-    let room = head.room;
-    let size = number2(bytes, 0) as usize;
-    if !head.whole {
-        return false;
-    }
-    if 5000 < size {
-        return false;
-    }
-    if !take(bytes, size) {
-        return false;
-    }
-    print_read(&bytes[0..size], &mut rows[0..room], text);
-    true
-}
-
-// The place of a line `say`.
-fn answer_place(bytes: &mut [u8], rows: &mut [u64], text: &mut [u8]) -> bool
-    requires { (length bytes.old ≡ 200000) × (length rows.old ≡ 5000) }
-{
-    if !take(bytes, 3) {
-        return false;
-    }
-    let n = bytes[0];
-    let t = bytes[1];
-    let count = wide(bytes[2]) as usize;
-    if !take_rows(bytes, count, rows) {
-        return false;
-    }
-    let place = says::place_of(n, t, &rows[0..count]);
-    inout::print_line(
-        text,
-        b"place",
-        &[wide(place.refusal), truth(place.meant), place.at as u64],
-    );
-    true
-}
-
-// Prints the reply of the line of a place.
-fn print_say(head: &[u8], lent: &mut [u8], text: &mut [u8])
-    requires { 12 ≤ length head.now }
-{
-    let place = number2(head, 2) as u16;
-    let written = says::write_say(head[0], head[1], place, number8(head, 4), lent);
-    print_bytes(
-        text,
-        b"say",
-        &[wide(written.refusal), written.size as u64],
-        lent,
-    );
-}
-
-// Prints the reply of what is told.
-fn print_told(head: &[u8], lent: &mut [u8], text: &mut [u8])
-    requires { 10 ≤ length head.now }
-{
-    let written = says::tell(head[0], number8(head, 1), head[9], lent);
-    print_bytes(
-        text,
-        b"told",
-        &[wide(written.refusal), written.size as u64],
-        lent,
-    );
-}
-
-// Prints the row writer's reply.
-fn print_row(head: &[u8], lent: &mut [u8], text: &mut [u8])
-    requires { 16 ≤ length head.now }
-{
-    let refusal = runfile::write_row(number8(head, 0), number8(head, 8) as usize, lent);
-    print_bytes(text, b"row", &[wide(refusal)], lent);
-}
-
-// Prints the reply to a request that is a head and nothing more: kinds 25, 28 and 31.
-fn print_by_head(kind: u8, head: &[u8], lent: &mut [u8], text: &mut [u8])
-    requires { 16 ≤ length head.now }
-{
-    count_up_bytes(lent);
-    match kind {
-        25 => print_say(head, lent, text),
-        28 => print_told(head, lent, text),
-        _ => print_row(head, lent, text),
-    }
-}
-
-// A request that is a head of so many bytes.
-fn answer_by_head(kind: u8, size: usize, bytes: &mut [u8], lent: &mut [u8], text: &mut [u8]) -> bool
-    requires { (length bytes.old ≡ 200000) × (length lent.old ≡ 200000) × (2 ≤ size) × (size ≤ 18) }
-{
-    let head = take_head(bytes, size, 5000);
-    let room = head.room;
-    if head.whole {
-        print_by_head(kind, bytes, &mut lent[0..room], text);
-    }
-    head.whole
-}
-
-// Prints the reply of a part that is shown.
-fn print_shown(file: &[u8], part: usize, lent: &mut [u8], text: &mut [u8]) {
-    count_up_bytes(lent);
-    let shown = showing::show(file, part, lent);
-    let reply = [wide(shown.refusal), shown.size as u64, shown.parts as u64];
-    print_bytes(text, b"shown", &reply, lent);
-}
-
-// A part of the text that is shown of a file.
-fn answer_shown(bytes: &mut [u8], lent: &mut [u8], text: &mut [u8]) -> bool
-    requires { (length bytes.old ≡ 200000) × (length lent.old ≡ 200000) }
-{
-    if !take(bytes, 16) {
-        return false;
-    }
-    let part = number8(bytes, 0) as usize;
-    let room = number4(bytes, 8) as usize;
-    let size = number4(bytes, 12) as usize;
-    if 200000 < room {
-        return false;
-    }
-    if 200000 < size {
-        return false;
-    }
-    if !take(bytes, size) {
-        return false;
-    }
-    print_shown(&bytes[0..size], part, &mut lent[0..room], text);
-    true
-}
-
-// A box number.
-fn answer_number(bytes: &mut [u8], text: &mut [u8]) -> bool
-    requires { length bytes.old ≡ 200000 }
-{
-    let head = take_head(bytes, 2, 5000);
-    let size = head.room;
-    if !head.whole {
-        return false;
-    }
-    if !take(bytes, size) {
-        return false;
-    }
-    let number = why::read_number(&bytes[0..size]);
-    inout::print_line(text, b"number", &[truth(number.good), number.value]);
-    true
-}
-
-// Prints the reply of the line that says why.
-fn print_why(file: &[u8], asked: u64, listed: u64, lent: &mut [u8], text: &mut [u8]) {
-    count_up_bytes(lent);
-    let answered = why::answer(file, asked, listed, lent);
-    let reply = [
-        wide(answered.refusal),
-        answered.size as u64,
-        wide(answered.ends),
-    ];
-    print_bytes(text, b"answer", &reply, lent);
-}
-
-// The line that says why.
-fn answer_why(bytes: &mut [u8], lent: &mut [u8], text: &mut [u8]) -> bool
-    requires { (length bytes.old ≡ 200000) × (length lent.old ≡ 200000) }
-{
-    if !take(bytes, 22) {
-        return false;
-    }
-    let asked = number8(bytes, 0);
-    let listed = number8(bytes, 8);
-    let room = number2(bytes, 16) as usize;
-    let size = number4(bytes, 18) as usize;
-    if 5000 < room {
-        return false;
-    }
-    if 200000 < size {
-        return false;
-    }
-    if !take(bytes, size) {
-        return false;
-    }
-    print_why(&bytes[0..size], asked, listed, &mut lent[0..room], text);
-    true
-}
-
-// The maker in the first 23 bytes.
-fn maker(bytes: &[u8]) -> Maker
-    requires { 23 ≤ length bytes.now }
-{
-    Maker {
-        stage: bytes[0],
-        n: bytes[1],
-        t: bytes[2],
-        faulty: number2(bytes, 3) as u16,
-        lines: number8(bytes, 5),
-        kept: number8(bytes, 13) as usize,
-        refusal: bytes[21],
-        fault: bytes[22],
-    }
-}
-
 // The numbers of a maker.
 fn maker_numbers(maker: Maker) -> [u64; 8] {
     [
-        wide(maker.stage),
-        wide(maker.n),
-        wide(maker.t),
-        maker.faulty as u64,
+        u64::from(maker.stage),
+        u64::from(maker.n),
+        u64::from(maker.t),
+        u64::from(maker.faulty),
         maker.lines,
         maker.kept as u64,
-        wide(maker.refusal),
-        wide(maker.fault),
+        u64::from(maker.refusal),
+        u64::from(maker.fault),
     ]
 }
 
-// Prints the reply of a text that is taken, with both lent slices behind it.
-fn print_taken(maker: Maker, taken: &[u8], line: &mut [u8], lent: &mut [u8], text: &mut [u8]) {
-    count_up_bytes(lent);
-    let numbers = maker_numbers(making::take(maker, taken, line, lent));
-    print_front(text, b"taken", &numbers);
-    print_places(text, line);
-    print_places(text, lent);
-    io::write_all(inout::STANDARD_OUTPUT, b"\n");
-}
-
-// A text that is taken.
-fn answer_taken(bytes: &mut [u8], lent: &mut [u8], text: &mut [u8]) -> bool
-    requires { (length bytes.old ≡ 200000) × (length lent.old ≡ 200000) }
-{
-    let head = take_head(bytes, 29, 5000);
-    let room = head.room;
-    let maker = maker(bytes);
-    let size = number2(bytes, 23) as usize;
-    let kept = number2(bytes, 25) as usize;
-    let mut line = [0u8; 5000];
-    if !head.whole {
-        return false;
-    }
-    if 5000 < size {
-        return false;
-    }
-    if 5000 < kept {
-        return false;
-    }
-    if !take(bytes, size) {
-        return false;
-    }
-    if !take(&mut line, kept) {
-        return false;
-    }
-    print_taken(
-        maker,
-        &bytes[0..size],
-        &mut line[0..kept],
-        &mut lent[0..room],
-        text,
-    );
-    true
-}
-
-// Prints the reply of a text that is ended.
-fn print_ended(maker: Maker, line: &[u8], lent: &mut [u8], text: &mut [u8]) {
-    count_up_bytes(lent);
-    let made = making::finish(maker, line, lent);
-    let reply = [
-        wide(made.refusal),
-        made.line,
-        wide(made.fault),
-        made.size as u64,
-    ];
-    print_bytes(text, b"ended", &reply, lent);
-}
-
-// A text that is ended.
-fn answer_ended(bytes: &mut [u8], lent: &mut [u8], text: &mut [u8]) -> bool
-    requires { (length bytes.old ≡ 200000) × (length lent.old ≡ 200000) }
-{
-    let head = take_head(bytes, 27, 5000);
-    let room = head.room;
-    let maker = maker(bytes);
-    let size = number2(bytes, 23) as usize;
-    if !head.whole {
-        return false;
-    }
-    if 5000 < size {
-        return false;
-    }
-    if !take(bytes, size) {
-        return false;
-    }
-    print_ended(maker, &bytes[0..size], &mut lent[0..room], text);
-    true
-}
-
-// Whether a text is settled.
-fn answer_settled(bytes: &mut [u8], text: &mut [u8]) -> bool
-    requires { length bytes.old ≡ 200000 }
-{
-    let head = take_head(bytes, 25, 5000);
-    let room = head.room;
-    let maker = maker(bytes);
-    if !head.whole {
-        return false;
-    }
-    if !take(bytes, room) {
-        return false;
-    }
-    let settled = making::is_settled(maker, &bytes[0..room]);
-    inout::print_line(text, b"settled", &[truth(settled)]);
-    true
-}
-
-// The maker that stands where there is no text.
-fn answer_no_text(text: &mut [u8]) -> bool {
-    inout::print_line(text, b"maker", &maker_numbers(making::no_text()));
-    true
-}
-
-// Where a table begins.
-fn answer_begins(bytes: &mut [u8], text: &mut [u8]) -> bool
-    requires { length bytes.old ≡ 200000 }
-{
-    if !take(bytes, 2) {
-        return false;
-    }
-    inout::print_line(
-        text,
-        b"begins",
-        &[listing::table_begins(bytes[0], bytes[1]) as u64],
-    );
-    true
-}
-
-// The next request. False where there is none, or none that can be answered.
-fn answer(bytes: &mut [u8], rows: &mut [u64], lent: &mut [u8], text: &mut [u8]) -> bool
-    requires { (length bytes.old ≡ 200000) × (length rows.old ≡ 5000) × (length lent.old ≡ 200000) }
-{
-    if !take(bytes, 1) {
-        return false;
-    }
-    let kind = bytes[0];
-    match kind {
-        21 => answer_heading(bytes, rows, lent, text),
-        22 => answer_table(bytes, rows, lent, text),
-        23 => answer_read(bytes, rows, text),
-        24 => answer_place(bytes, rows, text),
-        25 => answer_by_head(kind, 14, bytes, lent, text),
-        26 => answer_taken(bytes, lent, text),
-        27 => answer_ended(bytes, lent, text),
-        28 => answer_by_head(kind, 12, bytes, lent, text),
-        29 => answer_shown(bytes, lent, text),
-        30 => answer_no_text(text),
-        31 => answer_by_head(kind, 18, bytes, lent, text),
-        32 => answer_begins(bytes, text),
-        33 => answer_settled(bytes, text),
-        36 => answer_number(bytes, text),
-        37 => answer_why(bytes, lent, text),
-        _ => false,
+// The numbers of a text that is read as a box number: 1 and the number, or 0 and 0.
+fn number_numbers(text: &[u8]) -> [u64; 2] {
+    match why::read_number(text) {
+        Some(value) => [1, value],
+        None => [0, 0],
     }
 }
 
-// A proved loop has to end, and nothing says that a stream does: it counts its turns down from a number that no run
-// uses up.
-fn answer_all(bytes: &mut [u8], rows: &mut [u64], lent: &mut [u8], text: &mut [u8])
-    requires { (length bytes.old ≡ 200000) × (length rows.old ≡ 5000) × (length lent.old ≡ 200000) }
-{
-    let mut turns = u64::MAX;
-    while turns > 0 && answer(bytes, rows, lent, text) {
-        turns -= 1;
+// What each request is answered with: the bytes and the rows that came for it, the lent bytes, a
+// lent line, and the text of the reply. The longest text is that of the numbers of a line that was
+// read: 5,000 of at most 20 digits.
+#[derive(Drop)]
+struct Desk {
+    bytes: [u8; 200000],
+    rows: [u64; 5000],
+    lent: [u8; 200000],
+    line: [u8; 5000],
+    text: [u8; 105001],
+}
+
+impl Desk {
+    // Reads so many rows to the front of the rows, by way of the bytes.
+    fn take_rows(&mut self, count: usize) -> Option<()>
+        requires { count ≤ 5000 }
+    {
+        fill(&mut self.bytes[..8 * count])?;
+        (runfile::read_part(&self.bytes, 0, count, &mut self.rows) == 0).then_some(())
+    }
+
+    // The heading writer.
+    fn heading(&mut self) -> Option<()> {
+        let n = next_u8()?;
+        let t = next_u8()?;
+        let faulty = next_u16()?;
+        let count = usize::from(next_u8()?);
+        let room = next_length(5000)?;
+        self.take_rows(count)?;
+        let lent = lend(&mut self.lent, room, as_byte);
+        let wrote = runfile::write_heading(n, t, faulty, &self.rows[..count], lent);
+        let reply = [u64::from(wrote.refusal), wrote.size as u64];
+        print_bytes(&mut self.text, b"headed", &reply, lent);
+        Some(())
+    }
+
+    // The table writer.
+    fn table(&mut self) -> Option<()> {
+        let n = next_u8()?;
+        let count = next_length(5000)?;
+        let room = next_length(40000)?;
+        self.take_rows(count)?;
+        let lent = lend(&mut self.lent, room, as_byte);
+        let wrote = runfile::write_table(n, &self.rows[..count], lent);
+        let reply = [u64::from(wrote.refusal), wrote.size as u64];
+        print_bytes(&mut self.text, b"tabled", &reply, lent);
+        Some(())
+    }
+
+    // The line reader.
+    fn read(&mut self) -> Option<()> {
+        let size = next_length(5000)?;
+        let room = next_length(5000)?;
+        fill(&mut self.bytes[..size])?;
+        let rows = lend(&mut self.rows, room, as_row);
+        let words = lines::read_line(&self.bytes[..size], rows);
+        let reply = [
+            u64::from(words.refusal),
+            words.word as u64,
+            words.count as u64,
+        ];
+        print_front(&mut self.text, b"read", &reply);
+        inout::print_line(&mut self.text, b"", rows);
+        Some(())
+    }
+
+    // The place of a line `say`.
+    fn place(&mut self) -> Option<()> {
+        let n = next_u8()?;
+        let t = next_u8()?;
+        let count = usize::from(next_u8()?);
+        self.take_rows(count)?;
+        let place = says::place_of(n, t, &self.rows[..count]);
+        let reply = [
+            u64::from(place.refusal),
+            u64::from(place.meant),
+            place.at as u64,
+        ];
+        inout::print_line(&mut self.text, b"place", &reply);
+        Some(())
+    }
+
+    // The line of a place.
+    fn say(&mut self) -> Option<()> {
+        let n = next_u8()?;
+        let table = next_u8()?;
+        let place = next_u16()?;
+        let row = next_u64()?;
+        let room = next_length(5000)?;
+        let lent = lend(&mut self.lent, room, as_byte);
+        let written = says::write_say(n, table, place, row, lent);
+        let reply = [u64::from(written.refusal), written.size as u64];
+        print_bytes(&mut self.text, b"say", &reply, lent);
+        Some(())
+    }
+
+    // A text that is taken.
+    fn taken(&mut self) -> Option<()> {
+        let maker = next_maker()?;
+        let size = next_length(5000)?;
+        let kept = next_length(5000)?;
+        let room = next_length(5000)?;
+        fill(&mut self.bytes[..size])?;
+        fill(&mut self.line[..kept])?;
+        let lent = lend(&mut self.lent, room, as_byte);
+        let (line, _) = self.line.split_at_mut(kept);
+        let maker = making::take(maker, &self.bytes[..size], line, lent);
+        print_front(&mut self.text, b"taken", &maker_numbers(maker));
+        print_places(&mut self.text, line);
+        print_places(&mut self.text, lent);
+        io::write_all(inout::STANDARD_OUTPUT, b"\n");
+        Some(())
+    }
+
+    // A text that is ended.
+    fn ended(&mut self) -> Option<()> {
+        let maker = next_maker()?;
+        let kept = next_length(5000)?;
+        let room = next_length(5000)?;
+        fill(&mut self.line[..kept])?;
+        let lent = lend(&mut self.lent, room, as_byte);
+        let made = making::finish(maker, &self.line[..kept], lent);
+        let reply = [
+            u64::from(made.refusal),
+            made.line,
+            u64::from(made.fault),
+            made.size as u64,
+        ];
+        print_bytes(&mut self.text, b"ended", &reply, lent);
+        Some(())
+    }
+
+    // What is told.
+    fn told(&mut self) -> Option<()> {
+        let refusal = next_u8()?;
+        let line = next_u64()?;
+        let fault = next_u8()?;
+        let room = next_length(5000)?;
+        let lent = lend(&mut self.lent, room, as_byte);
+        let written = says::tell(refusal, line, fault, lent);
+        let reply = [u64::from(written.refusal), written.size as u64];
+        print_bytes(&mut self.text, b"told", &reply, lent);
+        Some(())
+    }
+
+    // A part of the text that is shown of a file.
+    fn shown(&mut self) -> Option<()> {
+        let part = next_usize()?;
+        let room = next_size()?;
+        let size = next_size()?;
+        fill(&mut self.bytes[..size])?;
+        let lent = lend(&mut self.lent, room, as_byte);
+        let shown = showing::show(&self.bytes[..size], part, lent);
+        let reply = [
+            u64::from(shown.refusal),
+            shown.size as u64,
+            shown.parts as u64,
+        ];
+        print_bytes(&mut self.text, b"shown", &reply, lent);
+        Some(())
+    }
+
+    // The maker that stands where there is no text.
+    fn no_text(&mut self) -> Option<()> {
+        inout::print_line(&mut self.text, b"maker", &maker_numbers(making::no_text()));
+        Some(())
+    }
+
+    // The row writer.
+    fn row(&mut self) -> Option<()> {
+        let row = next_u64()?;
+        let at = next_usize()?;
+        let room = next_length(5000)?;
+        let lent = lend(&mut self.lent, room, as_byte);
+        let refusal = runfile::write_row(row, at, lent);
+        print_bytes(&mut self.text, b"row", &[u64::from(refusal)], lent);
+        Some(())
+    }
+
+    // Where a table begins.
+    fn begins(&mut self) -> Option<()> {
+        let begins = listing::table_begins(next_u8()?, next_u8()?);
+        inout::print_line(&mut self.text, b"begins", &[begins as u64]);
+        Some(())
+    }
+
+    // Whether a text is settled.
+    fn settled(&mut self) -> Option<()> {
+        let maker = next_maker()?;
+        let kept = next_length(5000)?;
+        fill(&mut self.line[..kept])?;
+        let is_settled = making::is_settled(maker, &self.line[..kept]);
+        inout::print_line(&mut self.text, b"settled", &[u64::from(is_settled)]);
+        Some(())
+    }
+
+    // A box number.
+    fn number(&mut self) -> Option<()> {
+        let size = next_length(5000)?;
+        fill(&mut self.bytes[..size])?;
+        let reply = number_numbers(&self.bytes[..size]);
+        inout::print_line(&mut self.text, b"number", &reply);
+        Some(())
+    }
+
+    // The line that says why.
+    fn why(&mut self) -> Option<()> {
+        let asked = next_u64()?;
+        let listed = next_u64()?;
+        let room = next_length(5000)?;
+        let size = next_size()?;
+        fill(&mut self.bytes[..size])?;
+        let lent = lend(&mut self.lent, room, as_byte);
+        let answered = why::answer(&self.bytes[..size], asked, listed, lent);
+        let reply = [
+            u64::from(answered.refusal),
+            answered.size as u64,
+            u64::from(answered.ends),
+        ];
+        print_bytes(&mut self.text, b"answer", &reply, lent);
+        Some(())
+    }
+
+    // The next request. None where there is none, or none that can be answered.
+    // Stays: a kind is a number here and no enum, since it is read in this one place, and an enum
+    // would list all kinds a second time.
+    fn answer(&mut self) -> Option<()> {
+        match next_u8()? {
+            21 => self.heading(),
+            22 => self.table(),
+            23 => self.read(),
+            24 => self.place(),
+            25 => self.say(),
+            26 => self.taken(),
+            27 => self.ended(),
+            28 => self.told(),
+            29 => self.shown(),
+            30 => self.no_text(),
+            31 => self.row(),
+            32 => self.begins(),
+            33 => self.settled(),
+            36 => self.number(),
+            37 => self.why(),
+            _ => None,
+        }
     }
 }
 
-// The longest text is that of the numbers of a line that was read: 5,000 of at most 20 digits.
+// A proved loop has to end, and nothing says that a stream does: it has a number of turns that no
+// run uses up.
 fn main() {
-    let mut bytes = [0u8; 200000];
-    let mut rows = [0u64; 5000];
-    let mut lent = [0u8; 200000];
-    let mut text = [0u8; 105001];
-    answer_all(&mut bytes, &mut rows, &mut lent, &mut text);
+    let mut desk = Desk {
+        bytes: [0u8; 200000],
+        rows: [0u64; 5000],
+        lent: [0u8; 200000],
+        line: [0u8; 5000],
+        text: [0u8; 105001],
+    };
+    for _ in 0..u64::MAX {
+        if desk.answer().is_none() {
+            return;
+        }
+    }
 }

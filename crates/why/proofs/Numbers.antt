@@ -3,32 +3,24 @@
 use mathlib.Core.Path.{◌≡◌, refl, sym, ap, ◌∙◌}
 use mathlib.Core.Bool.{Bool, true, false, ◌&&◌}
 use mathlib.Core.List.{List, [], ◌∷◌}
-use Prim.Native.Nat.{ℕ, ◌+◌, ◌-◌, ◌*◌, ◌≤◌, ◌<◌}
+use Prim.Native.Nat.{ℕ, min, ◌+◌, ◌-◌, ◌*◌, ◌≤◌, ◌<◌}
 use native.Mathlib.Numerals.{add-one}
 use native.Mathlib.Omega.{arith}
 use lib.Dec.{leb, ltb, leb-suc-suc}
 use lib.ListN.{length, get_or, drop, drop_of_length-le}
 use lib.Seq.{drop-cons}
 use borrow.Author.Tests.{lt-ltb, le-ltb, ltb-true, ltb-false}
-use Rattle.counting.proofs.Bools.{cond_true, cond_false, both, and_left, and_false_right, not_both}
+use Rattle.counting.proofs.Bools.{cond_true, cond_false, both, and_false_right, not_both}
 use Rattle.lines.specs.Line.{read_on}
 use Rattle.lines.specs.Read.{is_digit, is_digits}
-use Rattle.why.specs.declared.Number.{Number}
+use Rattle.std.specs.Prelude.{Some, None}
+use Rattle.std.specs.Char.{is_ascii_digit}
 use Rattle.why.specs.Answer.{is_box_number, capped, number_reply}
 
--- the test of a digit, by where the byte lies
-module _ (byte : ℕ) where
-  pub digit_low : is_digit byte ≡ true → 48 ≤ byte
-  unfolding is_digit
-  digit_low t = omega (arith, ltb-true 47 byte (and_left (ltb 47 byte) (ltb byte 58) t))
-
-  pub digit_below : byte < 48 → is_digit byte ≡ false
-  unfolding is_digit
-  digit_below l = not_both (ltb byte 58) (le-ltb 47 byte (omega arith))
-
-  pub digit_above : 48 ≤ byte → is_digit byte ≡ leb byte 57
-  unfolding is_digit
-  digit_above h = ap (λ (b : Bool). b && ltb byte 58) (lt-ltb 47 byte (omega arith)) ∙ leb-suc-suc byte 57
+-- the library's test of a digit says the same
+pub digit_same : (byte : ℕ) → is_ascii_digit byte ≡ is_digit byte
+unfolding is_digit
+digit_same byte = ap (λ (b : Bool). leb 48 byte && b) (sym (leb-suc-suc byte 57))
 
 -- a value up to 256, and one above 255
 pub capped_small : (value : ℕ) → value ≤ 256 → capped value ≡ value
@@ -42,6 +34,14 @@ capped_small value h = go (ltb value 256) refl
 pub capped_large : (value : ℕ) → 255 < value → capped value ≡ 256
 unfolding capped
 capped_large value h = cond_false _ _ (le-ltb value 256 (omega arith))
+
+-- the smaller of a value and 256
+pub capped_min : (value : ℕ) → min value 256 ≡ capped value
+capped_min value = go (ltb value 256) refl
+  where
+    go : (b : Bool) → ltb value 256 ≡ b → min value 256 ≡ capped value
+    go true e = let small = ltb-true value 256 e in omega (arith, capped_small value (omega (arith, small)), small)
+    go false e = let large = ltb-false value 256 e in omega (arith, capped_large value (omega (arith, large)), large)
 
 -- a capped value is at most 256
 capped_most : (value : ℕ) → capped value ≤ 256
@@ -124,32 +124,32 @@ module _ (text : List ℕ) (i value : ℕ) (r : ReadTo text i value) where
 
 -- the reply to a text that is no box number: it is empty, or too long, or has another byte
 module _ (text : List ℕ) where
-  no_number : is_box_number text ≡ false → record { good = false; value = 0 } ≡ number_reply text
+  no_number : is_box_number text ≡ false → None ≡ number_reply text
   unfolding number_reply
   no_number f = sym (cond_false _ _ f)
 
-  pub number_empty : length text ≡ 0 → record { good = false; value = 0 } ≡ number_reply text
+  pub number_empty : length text ≡ 0 → None ≡ number_reply text
   unfolding is_box_number
   number_empty e =
       no_number (not_both (is_digits text) (not_both (ltb (length text) 21) (le-ltb 0 (length text) (omega arith))))
 
-  pub number_long : 20 < length text → record { good = false; value = 0 } ≡ number_reply text
+  pub number_long : 20 < length text → None ≡ number_reply text
   unfolding is_box_number
   number_long l =
       no_number
       (not_both (is_digits text) (and_false_right (ltb 0 (length text)) (le-ltb (length text) 21 (omega arith))))
 
-  pub number_other : is_digits text ≡ false → record { good = false; value = 0 } ≡ number_reply text
+  pub number_other : is_digits text ≡ false → None ≡ number_reply text
   unfolding is_box_number
   number_other f = no_number (and_false_right (ltb 0 (length text) && ltb (length text) 21) f)
 
   -- and to one that is
   pub number_read : (value : ℕ) → (length text ≡ 0 → ⊥) → length text ≤ 20 → is_digits text ≡ true →
       value ≡ capped (read_on 0 text) →
-      record { good = true; value = value } ≡ number_reply text
+      Some value ≡ number_reply text
   unfolding number_reply is_box_number
   number_read value some short t e =
-      ap {B = Number} (λ (v : ℕ). record { good = true; value = v }) e
+      ap Some e
       ∙ sym
       (cond_true _ _
       (both

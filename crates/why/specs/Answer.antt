@@ -1,5 +1,5 @@
 -- The number of a box as a text has it, and the line that says why a box is on a list. A text is a list of bytes.
-use Rattle.std.specs.Prelude.{ℕ, Bool, true, false, cond, ◌&&◌, List, [], ◌∷◌, ◌++◌, eqb, ltb, length}
+use Rattle.std.specs.Prelude.{ℕ, Bool, cond, ◌&&◌, List, [], ◌∷◌, ◌++◌, eqb, ltb, length, Option, Some, None}
 use Rattle.run.specs.declared.Next.{Next}
 use Rattle.run.specs.declared.Reason.{Reason}
 use Rattle.run.specs.declared.Why.{Why}
@@ -9,7 +9,6 @@ use Rattle.lines.specs.Line.{field, line_of, placed, read_on}
 use Rattle.lines.specs.Read.{is_digits}
 use Rattle.listing.specs.Listing.{refused_word, outcome_of}
 use Rattle.why.specs.declared.Answered.{Answered}
-use Rattle.why.specs.declared.Number.{Number}
 
 -- a box number is 1 to 20 decimal digits and nothing else
 unfoldable pub is_box_number : List ℕ → Bool
@@ -19,11 +18,9 @@ is_box_number text = ltb 0 (length text) && ltb (length text) 21 && is_digits te
 unfoldable pub capped : ℕ → ℕ
 capped value = cond (ltb value 256) value 256
 
--- the reply: whether the text is a box number, and its value; 0 where it is none
-unfoldable pub number_reply : List ℕ → Number
-number_reply text =
-    cond (is_box_number text) (record { good = true; value = capped (read_on 0 text) })
-    (record { good = false; value = 0 })
+-- the reply: the value of the text where it is a box number
+unfoldable pub number_reply : List ℕ → Option ℕ
+number_reply text = cond (is_box_number text) (Some (capped (read_on 0 text))) None
 
 -- a newline
 abbrev pub newline : List ℕ

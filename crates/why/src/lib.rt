@@ -1,13 +1,11 @@
 // Why a box is on a list: the number of a box is read from a text, and the line that says why is written.
 #![tactic(auto)]
 
-ghost use Rattle.std.specs.Prelude.{◌≡◌, true, [], ◌∷◌, ◌+◌, ◌-◌, ◌*◌, ◌≤◌, length};
-ghost use Rattle.lines.specs.Line.{line_of};
-ghost use Rattle.lines.specs.Read.{is_digit};
-ghost use Rattle.listing.specs.Inside.{Put};
+ghost use Rattle.std.specs.Prelude.{◌≡◌, [], ◌+◌, ◌<◌, ◌≤◌, ◌++◌, length};
+ghost use Rattle.lines.specs.Line.{field};
 ghost use Rattle.why.specs.Answer.{
-  capped,
   number_reply,
+  newline,
   reason_line,
   not_listed_line,
   refused_line,
@@ -18,19 +16,16 @@ ghost use Rattle.why.specs.Answer.{
 };
 
 use run::{Reason, Why};
+use sizes::Refusal;
+use std::marker::Model;
 
 // Enough for any line by the widths of its numbers alone.
 const LINE_BYTES: usize = 60;
 
-// The reply of a box number: whether the text is one, and its value, 256 for each above 255.
-#[derive(Clone, Copy)]
-pub struct Number {
-    pub good: bool,
-    pub value: u64,
-}
-
 // The reply of the line that says why: the refusal's number, or 0 with the length of the line and the number behind
 // `refused`, 0 where the line is another.
+// Stays: numbers and no Result, since docs/SCOPE.md's replies carry 0 where nothing is refused; and a type and an end
+// of `answer` beside those of `listing::list`, since `answer_reply` and `list_reply` each give their own.
 #[derive(Clone, Copy)]
 pub struct Answered {
     pub refusal: u8,
@@ -38,115 +33,129 @@ pub struct Answered {
     pub ends: u8,
 }
 
-// Is a byte a decimal digit?
-fn is_digit(byte: u8) -> bool
-    ensures { result ≡ is_digit byte }
-{
-    if byte < b'0' {
-        return false;
-    }
-    byte <= b'9'
-}
-
-// A value with one more digit behind it, 256 for each above 255.
-fn add_digit(value: u64, byte: u8) -> u64
-    requires { (value ≤ 256) × (is_digit byte ≡ true) }
-    ensures { result ≡ capped (value * 10 + (byte - 48)) }
-{
-    let longer = value * 10 + (byte - b'0') as u64;
-    if 255 < longer {
-        return 256;
-    }
-    longer
-}
-
-// Reads a box number: 1 to 20 decimal digits and nothing else.
-pub fn read_number(text: &[u8]) -> Number
+// Reads a box number: 1 to 20 decimal digits and nothing else. 256 stands for every value above 255.
+// Stays: beside the reading of numbers in `lines`, which takes no value that does not fit; this one caps it.
+pub fn read_number(text: &[u8]) -> Option<u64>
     ensures { result ≡ number_reply text.now }
 {
-    if text.len() == 0 {
-        return Number {
-            good: false,
-            value: 0,
-        };
-    }
     let long = 20 < text.len();
-    if long {
-        return Number {
-            good: false,
-            value: 0,
-        };
+    if text.is_empty() || long {
+        return None;
     }
     let mut value: u64 = 0;
-    let mut i: usize = 0;
-    while i < text.len() {
-        let byte = text[i];
-        if !is_digit(byte) {
-            return Number {
-                good: false,
-                value: 0,
-            };
+    for byte in text {
+        if !byte.is_ascii_digit() {
+            return None;
         }
-        value = add_digit(value, byte);
-        i += 1;
+        value = (value * 10 + u64::from(*byte - b'0')).min(256);
     }
-    Number { good: true, value }
+    Some(value)
 }
 
-// Puts words and a number at a place of the text, as a line, and gives the place of its newline.
-fn put_part(text: &mut [u8], at: usize, words: &[u8], number: u8) -> usize
-    requires { at + (length words.now + 5) ≤ length text.old }
-    ensures put { Put text.old text.new at (result + 1)
-        (line_of words.now (number ∷ [])) }
-    ensures upper_bound { result ≤ at + (length words.now + 4) }
-{
-    lines::put_line(text, at, words, &[number as u64]) - 1
+// The line while it is put together. A clause sees it as the bytes that are there so far.
+// Stays: beside `listing::Lines`, which is alike. One for both would be a public type of `lines`, whose functions may
+// have no `requires` (docs/DECISIONS.md, "Code"): each put would be total, and both crates would wrap it again.
+#[derive(Drop)]
+struct Line {
+    bytes: [u8; LINE_BYTES],
+    size: usize,
 }
 
-// Puts the line of a reason at the front of the text, and gives its size. Each part but the first begins at the
-// newline of the one before.
-fn put_reason(iteration: u8, confidence: u8, support: u8, text: &mut [u8]) -> usize
-    requires { 60 ≤ length text.old }
-    ensures { Put text.old text.new 0 result (reason_line iteration confidence support) ×
-        (result ≤ 60) }
-{
-    let first = put_part(text, 0, b"listed in iteration", iteration);
-    let second = put_part(text, first, b" with confidence", confidence);
-    put_part(text, second, b" and support", support) + 1
+impl Model for Line {
+    ghost use Rattle.std.specs.Prelude.{ℕ, ◌≤◌, List, take};
+
+    ghost Value = { List ℕ };
+
+    ghost view = { λ line. take line.size line.bytes };
+
+    ghost invariant = { λ line. line.size ≤ 60 };
 }
 
-// Puts the line of a box that is on no list at the front of the text, and gives its size.
-fn put_not_listed(text: &mut [u8]) -> usize
-    requires { 11 ≤ length text.old }
-    ensures { Put text.old text.new 0 result not_listed_line × (result ≤ 11) }
-{
-    lines::copy(b"not listed\n", text)
-}
-
-// Puts the line `refused` at the front of the text, and gives its size.
-fn put_refused(refusal: u8, text: &mut [u8]) -> usize
-    requires { 12 ≤ length text.old }
-    ensures { Put text.old text.new 0 result (refused_line refusal) × (result ≤ 12) }
-{
-    put_part(text, 0, b"refused", refusal) + 1
-}
-
-// Puts the line of a reply at the front of the text, and gives its size.
-fn put_why(w: Why, text: &mut [u8]) -> usize
-    requires { 60 ≤ length text.old }
-    ensures { Put text.old text.new 0 result (why_line w) × (result ≤ 60) }
-{
-    if w.refusal != 0 {
-        return put_refused(w.refusal, text);
+impl Line {
+    // A line with nothing in it.
+    fn new() -> Line
+        ensures { result ≡ [] }
+    {
+        Line {
+            bytes: [0; LINE_BYTES],
+            size: 0,
+        }
     }
-    let reason = w.reason;
-    if reason.iteration == 0 {
-        return put_not_listed(text);
+
+    // What is there so far.
+    fn as_bytes(&self) -> &[u8]
+        ensures { result.now ≡ self.now }
+    {
+        &self.bytes[..self.size]
     }
-    put_reason(reason.iteration, reason.confidence, reason.support, text)
+
+    // Puts words and a number behind the others. The newline that comes with them is overwritten by what follows.
+    fn put_part(&mut self, words: &[u8], number: u8)
+        requires { length self.old + (length words.now + 5) ≤ 60 }
+        ensures text { self.new ≡ self.old ++ (words.now ++ field number) }
+        ensures most { length self.new ≤ length self.old + (length words.now + 4) }
+    {
+        // Stays: `as`, since `from` is no plainer where a number goes straight into a line.
+        let end = lines::put_line(&mut self.bytes, self.size, words, &[number as u64]);
+        self.size = end - 1;
+    }
+
+    // Ends the line.
+    fn put_newline(&mut self)
+        requires { length self.old < 60 }
+        ensures { self.new ≡ self.old ++ newline }
+    {
+        self.bytes[self.size] = b'\n';
+        self.size += 1;
+    }
+
+    // The line of a reason.
+    fn of_reason(reason: Reason) -> Line
+        ensures { result ≡ reason_line reason.iteration reason.confidence reason.support }
+    {
+        let mut line = Line::new();
+        line.put_part(b"listed in iteration", reason.iteration);
+        line.put_part(b" with confidence", reason.confidence);
+        line.put_part(b" and support", reason.support);
+        line.put_newline();
+        line
+    }
+
+    // The line of a box that is on no list.
+    fn not_listed() -> Line
+        ensures { result ≡ not_listed_line }
+    {
+        let mut bytes = [0; LINE_BYTES];
+        let size = lines::copy(b"not listed\n", &mut bytes);
+        Line { bytes, size }
+    }
+
+    // The line `refused`.
+    fn of_refusal(refusal: u8) -> Line
+        ensures { result ≡ refused_line refusal }
+    {
+        let mut line = Line::new();
+        line.put_part(b"refused", refusal);
+        line.put_newline();
+        line
+    }
+
+    // The line of a reply.
+    fn of_why(w: &Why) -> Line
+        ensures { result ≡ why_line w.now }
+    {
+        if w.refusal != 0 {
+            Line::of_refusal(w.refusal)
+        } else if w.reason.iteration == 0 {
+            Line::not_listed()
+        } else {
+            Line::of_reason(w.reason)
+        }
+    }
 }
 
 // Runs a file to its end and asks its last state. A file that is refused is not asked.
+// Stays: a `Why` and no Result, since `why_of`, by which `answer_reply` says what is told, is one.
 fn ask(bytes: &[u8], asked: u64, listed: u64) -> Why
     ensures { result ≡ why_of bytes.now asked listed }
 {
@@ -173,17 +182,18 @@ pub fn answer(bytes: &[u8], asked: u64, listed: u64, out: &mut [u8]) -> Answered
     ensures value { result ≡ answer_reply bytes.now asked listed (length out.old) }
     ensures out_after { out.new ≡ answer_writes bytes.now asked listed out.old }
 {
-    let mut text = [0u8; LINE_BYTES];
     let w = ask(bytes, asked, listed);
-    let size = put_why(w, &mut text);
+    let line = Line::of_why(&w);
+    let told = line.as_bytes();
+    let size = told.len();
     if out.len() < size {
         return Answered {
-            refusal: 10,
+            refusal: u8::from(Refusal::ShortSlice),
             size: 0,
             ends: 0,
         };
     }
-    lines::copy(&text[..size], out);
+    lines::copy(told, out);
     Answered {
         refusal: 0,
         size,

@@ -1,13 +1,12 @@
--- `inout::fill` meets its contract: where the bytes have no such part it reads nothing, and else the part is filled.
+-- The contract of `inout::fill` says all where nothing is read; that the code meets it is found alone.
 -- Assumes nothing.
 use Prim.Native.Nat.{ℕ, ◌+◌, ◌-◌, ◌≤◌, ◌<◌}
 use mathlib.Core.List.{List, ◌++◌}
-use mathlib.Core.Path.{◌≡◌, refl, sym, ap, ap₂, ◌∙◌}
+use mathlib.Core.Path.{◌≡◌, sym, ap, ap₂, ◌∙◌}
 use native.Mathlib.Omega.{arith}
 use lib.ListN.{length, take, drop, take-append-drop}
 use lib.Seq.{drop-drop}
 use Rattle.inout.proofs.fill.Reads as Reads
-use Rattle.inout.proofs.fill.Goals as goal
 
 -- two lists with the same front and the same rest, which meet or overlap
 joined : (at end : ℕ) (xs ys : List ℕ) → end ≤ at → take at xs ≡ take at ys → drop end xs ≡ drop end ys → xs ≡ ys
@@ -41,20 +40,3 @@ one_backward κs a r s x y p q backward = (
   joined a.1.0 a.1.1.0 x.0.now y.0.now backward (p.1.0 ∙ sym q.1.0)
       (p.1.1.0 ∙ sym q.1.1.0),
 )
-
-pub returns-then-end-at : goal.returns-then-end-at
-returns-then-end-at c = record { within = omega arith; front = refl; back = refl; no_part = λ h. (refl, refl) }
-
-pub returns-then-bytes-end : goal.returns-then-bytes-end
-returns-then-bytes-end c = record { within = omega arith; front = refl; back = refl; no_part = λ h. (refl, refl) }
-
-pub returns : goal.returns
-returns c =
-    let part = c.fill_part.ensures in
-    record {
-      within = omega (arith, part.within);
-      front = part.front;
-      back = part.back;
-      no_part =
-          λ h. absurd (omega (arith, h));
-    }

@@ -1,94 +1,108 @@
--- `lines::find_numbers` meets its contract: with no word it is no line. Else the loop goes from space to space, and
--- `count` numbers are passed; the first piece that is no number decides, and at the end of the line all are numbers.
--- What is left of the line falls. Assumes nothing.
-use mathlib.Core.Path.{◌≡◌, sym, ◌∙◌}
-use mathlib.Core.Bool.{true, false≢true}
-use Prim.Native.Nat.{◌+◌, ◌<◌}
+-- With no word it is no line. Else the first part that is no number decides, and at the end of the line all are
+-- numbers. Assumes nothing.
+use mathlib.Core.Path.{sym, subst, ◌∙◌}
+use mathlib.Core.List.{[], ◌∷◌}
+use Prim.Native.Nat.{ℕ, ◌+◌, ◌≤◌}
 use native.Mathlib.Omega.{arith}
-use lib.ListN.{length}
-use borrow.Author.Tests.{not-true, not-false}
+use lib.ListN.{length, drop}
+use borrow.Author.Rules.{rules}
+use borrow.Author.Tests.{tests, eqb-true, eqb-false}
+use Rattle.std.proofs.lemmas.List.{length_push}
+use Rattle.std.proofs.lemmas.Iterator.Consumers.{YieldsList-turn, YieldsList-end}
 use Rattle.lines.specs.Read.{word_in}
-use Rattle.lines.proofs.Pieces.{line_none, line_worded}
-use Rattle.lines.proofs.Walk.{part, walk_begins, walk_bad, walk_skips, walk_turn, walk_all, walk_ends}
+use Rattle.lines.proofs.Pieces.{piece_within, line_none, line_worded}
+use Rattle.lines.proofs.Walk.{
+  Reached,
+  parts,
+  split_gives,
+  walk_begins,
+  walk_next,
+  walk_bad,
+  walk_skips,
+  walk_turn,
+  walk_last,
+  walk_all,
+  walk_ends,
+}
 use Rattle.lines.proofs.find_numbers.Goals as goal
-use Rattle.lines.proofs.find_numbers.Goals.{After-read_piece-part, Else-not-part, At-loop-at, In-loop-at, Start}
+use Rattle.lines.proofs.find_numbers.Goals.{In-None, In-Some, Else-word-eq0}
 
--- there is a word
-word_of : (h : At-loop-at) → 0 < length (word_in h.args.line.now)
-word_of h = omega (arith, h.requires, h.if-word-eq0.false)
+worded : (c : Else-word-eq0) → c.args.word ≤ length c.args.line.now
+unfolding word_in
+worded c = omega (arith, c.requires, piece_within c.args.line.now)
 
--- the piece has been read, and is a number or empty
-abbrev inside_of : Else-not-part → In-loop-at
-inside_of c = (goal.at.Else-not-part c).In-loop-at
+-- the part at hand is the next of those that are left
+next_of : (c : In-Some) →
+    let line = c.args.line.now in
+    Reached line (c.in-Some.part.now ∷ drop (length c.loop-part.yielded + 1) (parts line c.args.word))
+    c.loop-part.count
+next_of c =
+    let line = c.args.line.now in
+    let split = c.split-part-items.ensures in
+    walk_next line (parts line c.args.word) (length c.loop-part.yielded) c.loop-part.count c.in-Some.part.now
+    (YieldsList-turn
+    (split_gives _ line c.args.word c.into_iter-part-iterator.ensures.into_iter_gives split.rest split.done
+    split.closure (λ x b q k. search (rules, tests)))
+    c.loop-part.yielded _ c.loop-part.yielded_by _ _ c.in-Some.part c.in-Some.is
+    c.next.ensures.steps)
+    c.loop-part.invariant.reached
 
-good_of : (c : Else-not-part) → c.read_piece-part.result.good ≡ true
-good_of c = not-false _ c.if-not-part.false
-
-next_of : (c : Else-not-part) →
-    let head = (goal.at.In-loop-at (inside_of c)).At-loop-at in
-    c.read_piece-part.result.next
-    ≡ head.loop-at.at + 1 + length (part head.args.line.now head.loop-at.at)
-next_of c = c.read_piece-part.ensures.next_value (good_of c)
+-- at the end none is left
+last_of : (c : In-None) → Reached c.args.line.now [] c.loop-part.count
+last_of c =
+    let line = c.args.line.now in
+    let split = c.split-part-items.ensures in
+    let end =
+    YieldsList-end
+    (split_gives _ line c.args.word c.into_iter-part-iterator.ensures.into_iter_gives split.rest split.done
+    split.closure (λ x b q k. search (rules, tests)))
+    c.loop-part.yielded _ c.loop-part.yielded_by _ _ c.in-None.is c.next.ensures.steps in
+    walk_last line (parts line c.args.word) (length c.loop-part.yielded) c.loop-part.count end.1
+    c.loop-part.invariant.reached
 
 pub returns-then-word-eq0 : goal.returns-then-word-eq0
-returns-then-word-eq0 c =
-    let s = (goal.at.returns-then-word-eq0 c).Start in
+returns-then-word-eq0 c = line_none c.args.line.now (omega (arith, c.requires, c.if-word-eq0.true))
+
+pub slice_bounds-split-count : goal.slice_bounds-split-count
+slice_bounds-split-count c = worded (goal.at.slice_bounds-split-count c).Else-word-eq0
+
+pub slice_bounds-split-start : goal.slice_bounds-split-start
+slice_bounds-split-start c = omega (arith, worded (goal.at.slice_bounds-split-start c).Else-word-eq0)
+
+pub loop-part-init : goal.loop-part-init
+loop-part-init c = record { few = search rules; reached = walk_begins c.args.line.now c.args.word c.requires }
+
+pub returns-in_err-read_digits : goal.returns-in_err-read_digits
+returns-in_err-read_digits c =
+    rw c.from_residual.ensures
+    (line_worded c.args.line.now (omega (arith, c.requires, c.if-word-eq0.false))
+    ∙ walk_bad (next_of (goal.at.returns-in_err-read_digits c).In-Some) c.in_err-read_digits.ensures)
+
+pub loop-part-preserved-then-not-is_empty : goal.loop-part-preserved-then-not-is_empty
+loop-part-preserved-then-not-is_empty c =
+    let next = next_of (goal.at.loop-part-preserved-then-not-is_empty c).In-Some in
+    let some = eqb-false _ _ (sym c.is_empty.ensures ∙ c.if-not-is_empty.true) in
+    let n = length_push c.loop-part.yielded c.in-Some.part in
     record {
-      good_value = sym (line_none s.args.line.now (omega (arith, s.requires, c.if-word-eq0.true)));
-      count_value = λ e. absurd (false≢true e);
+      few = omega (arith, n, c.loop-part.invariant.few);
+      reached = subst (λ (k : ℕ).
+          Reached c.args.line.now (drop k (parts c.args.line.now c.args.word)) (c.loop-part.count + 1)) (sym n)
+          (walk_turn next c.in_ok-read_digits.ensures.0 (omega (arith, some)));
     }
 
-pub loop-at-init : goal.loop-at-init
-loop-at-init c =
-    let s = (goal.at.loop-at-init c).Start in
-    walk_begins s.args.line.now s.args.word s.requires
-
-pub returns-then-not-part : goal.returns-then-not-part
-returns-then-not-part c =
-    let call = (goal.at.returns-then-not-part c).After-read_piece-part in
-    let head = (goal.at.After-read_piece-part call).At-loop-at in
-    let line = head.args.line.now in
-    let bad =
-    walk_bad line head.loop-at.at head.loop-at.count head.loop-at.invariant call.loop-at-test.true
-    (sym call.read_piece-part.ensures.good_value ∙ not-true _ c.if-not-part.true) in
-    record { good_value = sym (line_worded line (word_of head) ∙ bad); count_value = λ e. absurd (false≢true e) }
-
-pub loop-at-smaller-then-at-part : goal.loop-at-smaller-then-at-part
-loop-at-smaller-then-at-part c = omega (arith, next_of (goal.at.loop-at-smaller-then-at-part c).Else-not-part)
-
-pub loop-at-preserved-then-at-part : goal.loop-at-preserved-then-at-part
-loop-at-preserved-then-at-part c =
-    let call = (goal.at.loop-at-preserved-then-at-part c).After-read_piece-part in
-    let head = (goal.at.After-read_piece-part call).At-loop-at in
-    walk_turn head.args.line.now head.loop-at.at head.loop-at.count head.loop-at.invariant
-    call.loop-at-test.true
-    call.read_piece-part.result.next
-    (next_of (goal.at.loop-at-preserved-then-at-part c).Else-not-part)
-    (sym call.read_piece-part.ensures.good_value ∙ good_of (goal.at.loop-at-preserved-then-at-part c).Else-not-part)
-    c.if-at-part.true
-
-pub loop-at-smaller : goal.loop-at-smaller
-loop-at-smaller c = omega (arith, next_of (goal.at.loop-at-smaller c).Else-not-part)
-
-pub loop-at-preserved : goal.loop-at-preserved
-loop-at-preserved c =
-    let call = (goal.at.loop-at-preserved c).After-read_piece-part in
-    let head = (goal.at.After-read_piece-part call).At-loop-at in
-    walk_skips head.args.line.now head.loop-at.at head.loop-at.count head.loop-at.invariant
-    call.loop-at-test.true
-    call.read_piece-part.result.next
-    (next_of (goal.at.loop-at-preserved c).Else-not-part)
-    (sym call.read_piece-part.ensures.good_value ∙ good_of (goal.at.loop-at-preserved c).Else-not-part)
-    c.if-at-part.false
+pub loop-part-preserved : goal.loop-part-preserved
+loop-part-preserved c =
+    let next = next_of (goal.at.loop-part-preserved c).In-Some in
+    let n = length_push c.loop-part.yielded c.in-Some.part in
+    record {
+      few = omega (arith, n, c.loop-part.invariant.few);
+      reached = subst (λ (k : ℕ).
+          Reached c.args.line.now (drop k (parts c.args.line.now c.args.word)) c.loop-part.count) (sym n)
+          (walk_skips next c.in_ok-read_digits.ensures.0
+          (eqb-true _ _ (sym c.is_empty.ensures ∙ c.if-not-is_empty.false)));
+    }
 
 pub returns : goal.returns
 returns c =
-    let head = (goal.at.returns c).At-loop-at in
-    let line = head.args.line.now in
-    let at = head.loop-at.at in
-    let count = head.loop-at.count in
-    let end = c.loop-at-test.false in
-    record {
-      good_value = sym (line_worded line (word_of head) ∙ walk_ends line at count head.loop-at.invariant end);
-      count_value = λ e. walk_all line at count head.loop-at.invariant end;
-    }
+    let last = last_of (goal.at.returns c).In-None in
+    (line_worded c.args.line.now (omega (arith, c.requires, c.if-word-eq0.false)) ∙ walk_ends last, walk_all last)

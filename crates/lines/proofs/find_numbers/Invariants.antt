@@ -1,13 +1,11 @@
--- `lines::find_numbers` meets its contract: with no word it is no line. Else the loop goes from space to space, and
--- `count` numbers are passed; the first piece that is no number decides, and at the end of the line all are numbers.
--- What is left of the line falls. Assumes nothing.
-use Prim.Native.Nat.{◌-◌}
-use lib.ListN.{length}
-use Rattle.lines.proofs.Walk.{Reached}
+-- The loop goes from part to part, and `count` numbers are passed, no more than parts. Assumes nothing.
+use Prim.Native.Nat.{◌≤◌}
+use lib.ListN.{length, drop}
+use Rattle.lines.proofs.Walk.{Reached, parts}
 use Rattle.lines.proofs.find_numbers.Given as goal
 
-abbrev pub invariant-loop-at : goal.invariant-loop-at
-invariant-loop-at l = Reached l.line l.at l.count
-
-abbrev pub decreases-loop-at : goal.decreases-loop-at
-decreases-loop-at l = length l.line - l.at
+abbrev pub invariant-loop-part : goal.invariant-loop-part
+invariant-loop-part l = record {
+  few : l.count ≤ length l.yielded;
+  reached : Reached l.line (drop (length l.yielded) (parts l.line l.word)) l.count;
+}

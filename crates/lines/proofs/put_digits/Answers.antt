@@ -35,9 +35,6 @@ room_of c = omega (arith, c.requires, ap length (digits_are c))
 pub bounds-out-at : goal.bounds-out-at
 bounds-out-at c = omega (arith, ap length (one_is c))
 
-pub overflow_add-result : goal.overflow_add-result
-overflow_add-result c = omega (arith, ap length (one_is c))
-
 pub returns-then-n-lt10 : goal.returns-then-n-lt10
 returns-then-n-lt10 c =
     let f = c.args in
@@ -50,9 +47,6 @@ returns-then-n-lt10 c =
 
 pub bounds-out-at-then-n-lt100 : goal.bounds-out-at-then-n-lt100
 bounds-out-at-then-n-lt100 c = omega (arith, ap length (two_is c))
-
-pub overflow_add-out-then-n-lt100-3 : goal.overflow_add-out-then-n-lt100-3
-overflow_add-out-then-n-lt100-3 c = omega (arith, ap length (two_is c))
 
 pub bounds-out-at-then-n-lt100-2 : goal.bounds-out-at-then-n-lt100-2
 bounds-out-at-then-n-lt100-2 c = simp length-set (omega (arith, ap length (two_is c)))

@@ -21,8 +21,3 @@ returns-then-behind c =
     let fits = line_within a.word.now a.numbers.now (length a.text.now - a.at) in
     let same = line_beyond a.word.now a.numbers.now a.text.now a.at (omega arith) in
     record { value = omega (arith, fits); text_after = same }
-
-pub returns : goal.returns
-returns c =
-    let put = c.put_within.ensures in
-    record { value = put.value; text_after = put.text_after }

@@ -14,10 +14,6 @@ pub bounds-out-at : goal.bounds-out-at
 unfolding field
 bounds-out-at c = omega (arith, c.requires)
 
-pub overflow_add-at : goal.overflow_add-at
-unfolding field
-overflow_add-at c = omega (arith, c.requires)
-
 pub put_digits-requires : goal.put_digits-requires
 unfolding field
 put_digits-requires c = simp length-set (omega (arith, c.requires))

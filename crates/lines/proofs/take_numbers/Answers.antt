@@ -1,120 +1,139 @@
--- `lines::take_numbers` meets its contract: the loop goes from space to space, and the first `count` numbers of the
--- line stand at the front of the slice. Every piece is a number or empty, for the line is a word and numbers. What is
--- left of the line falls. Assumes nothing.
-use mathlib.Core.Path.{◌≡◌, sym, ap, ◌∙◌}
-use mathlib.Core.Bool.{true}
-use mathlib.Core.List.{List, [], ◌∷◌, ◌++◌}
-use Prim.Native.Nat.{ℕ, ◌+◌, ◌<◌}
+-- Every part is a number or empty, for the line is a word and numbers, and each number has its place.
+-- Assumes nothing.
+use mathlib.Core.Path.{◌≡◌, sym, ap, subst, ◌∙◌}
+use mathlib.Core.Bool.{false≢true}
+use mathlib.Core.List.{[], ◌∷◌, ◌++◌}
+use Prim.Native.Nat.{ℕ, ◌+◌}
 use native.Mathlib.Omega.{arith}
 use native.Mathlib.Numerals.{add-one}
-use lib.ListN.{length, get_or, take}
+use lib.ListN.{length, get_or, take, drop}
 use lib.Seq.{length-take-le, take-suc, take_all}
+use borrow.Author.Rules.{rules}
+use borrow.Author.Tests.{tests, eqb-true, eqb-false}
+use Rattle.std.proofs.lemmas.List.{length_push}
+use Rattle.std.proofs.lemmas.Iterator.Consumers.{YieldsList-turn, YieldsList-end}
 use Rattle.lines.specs.Line.{placed}
-use Rattle.lines.specs.Read.{is_small, numbers_in}
-use Rattle.lines.proofs.Placed.{placed_none, placed_next, placed_length}
-use Rattle.lines.proofs.Pieces.{line_numbers}
-use Rattle.lines.proofs.Walk.{part, walk_begins, walk_fine, walk_skips, walk_one, walk_value, walk_turn, walk_all}
+use Rattle.lines.specs.Read.{word_in, numbers_in}
+use Rattle.lines.proofs.Placed.{placed_none, placed_next}
+use Rattle.lines.proofs.Pieces.{piece_within, line_numbers}
+use Rattle.lines.proofs.Walk.{
+  Reached,
+  parts,
+  split_gives,
+  walk_begins,
+  walk_next,
+  walk_fine,
+  walk_skips,
+  walk_one,
+  walk_value,
+  walk_turn,
+  walk_last,
+  walk_all,
+}
 use Rattle.lines.proofs.take_numbers.Goals as goal
-use Rattle.lines.proofs.take_numbers.Goals.{After-read_piece-part, At-loop-at, In-loop-at, Start, Then-at-part}
+use Rattle.lines.proofs.take_numbers.Goals.{In-None, In-Some}
 
-abbrev line_at : At-loop-at → List ℕ
-line_at h = h.args.line.now
-
--- the numbers passed, and the slice's length
-passed_of : (h : At-loop-at) → length (take h.loop-at.count (numbers_in (line_at h))) ≡ h.loop-at.count
-passed_of h = length-take-le h.loop-at.count (numbers_in (line_at h)) h.loop-at.invariant.0.some
-
-long_of : (h : At-loop-at) → length h.loop-at.numbers ≡ length h.args.numbers.now
-long_of h =
-    ap length h.loop-at.invariant.1
-    ∙ placed_length h.args.numbers.now 0 (take h.loop-at.count (numbers_in (line_at h)))
-    (omega (arith, passed_of h, h.loop-at.invariant.0.some, h.requires.line_in_bounds))
-
--- the piece is a number or empty, so it has been read
-small_of : (c : In-loop-at) → is_small (part (line_at (goal.at.In-loop-at c).At-loop-at) c.loop-at.at) ≡ true
-small_of c =
-    let h = (goal.at.In-loop-at c).At-loop-at in
-    walk_fine (line_at h) h.loop-at.at h.loop-at.count h.loop-at.invariant.0 c.loop-at-test.true
-    (line_numbers (line_at h) h.requires.line_value)
-
-next_of : (c : After-read_piece-part) →
-    let h = (goal.at.After-read_piece-part c).At-loop-at in
-    c.read_piece-part.result.next ≡ h.loop-at.at + 1 + length (part (line_at h) h.loop-at.at)
+-- the part at hand is the next of those that are left
+next_of : (c : In-Some) →
+    let line = c.args.line.now in
+    Reached line (c.in-Some.part.now ∷ drop (length c.loop-part.yielded + 1) (parts line c.args.word))
+    c.loop-part.count
 next_of c =
-    let told = c.read_piece-part.ensures in
-    told.next_value (told.good_value ∙ small_of (goal.at.After-read_piece-part c).In-loop-at)
+    let line = c.args.line.now in
+    let split = c.split-part-items.ensures in
+    walk_next line (parts line c.args.word) (length c.loop-part.yielded) c.loop-part.count c.in-Some.part.now
+    (YieldsList-turn
+    (split_gives _ line c.args.word c.into_iter-part-iterator.ensures.into_iter_gives split.rest split.done
+    split.closure (λ x b q k. search (rules, tests)))
+    c.loop-part.yielded _ c.loop-part.yielded_by _ _ c.in-Some.part c.in-Some.is
+    c.next.ensures.steps)
+    c.loop-part.invariant.reached
 
--- where there is a number, it has its place
-one_of : (c : Then-at-part) →
-    let h = (goal.at.Then-at-part c).At-loop-at in
-    h.loop-at.count < length (numbers_in (line_at h))
-one_of c =
-    let call = (goal.at.Then-at-part c).After-read_piece-part in
-    let h = (goal.at.After-read_piece-part call).At-loop-at in
-    walk_one (line_at h) h.loop-at.at h.loop-at.count h.loop-at.invariant.0 call.loop-at-test.true
-    call.read_piece-part.result.next
-    (next_of call)
-    (small_of (goal.at.After-read_piece-part call).In-loop-at)
-    c.if-at-part.true
+-- at the end none is left
+last_of : (c : In-None) → Reached c.args.line.now [] c.loop-part.count
+last_of c =
+    let line = c.args.line.now in
+    let split = c.split-part-items.ensures in
+    let end =
+    YieldsList-end
+    (split_gives _ line c.args.word c.into_iter-part-iterator.ensures.into_iter_gives split.rest split.done
+    split.closure (λ x b q k. search (rules, tests)))
+    c.loop-part.yielded _ c.loop-part.yielded_by _ _ c.in-None.is c.next.ensures.steps in
+    walk_last line (parts line c.args.word) (length c.loop-part.yielded) c.loop-part.count end.1
+    c.loop-part.invariant.reached
 
-pub loop-at-init : goal.loop-at-init
-loop-at-init c =
-    let s = (goal.at.loop-at-init c).Start in
-    (walk_begins s.args.line.now s.args.word s.requires.word_value, placed_none s.args.numbers.now 0)
+pub slice_bounds-split-count : goal.slice_bounds-split-count
+unfolding word_in
+slice_bounds-split-count c = omega (arith, c.requires.word_value, piece_within c.args.line.now)
+
+pub slice_bounds-split-start : goal.slice_bounds-split-start
+unfolding word_in
+slice_bounds-split-start c = omega (arith, c.requires.word_value, piece_within c.args.line.now)
+
+pub loop-part-init : goal.loop-part-init
+loop-part-init c = record {
+  reached = walk_begins c.args.line.now c.args.word c.requires.word_value;
+  written = placed_none c.args.numbers.now 0;
+}
+
+pub unreachable-requires : goal.unreachable-requires
+unreachable-requires c =
+    false≢true
+    (sym c.in_default.ensures
+    ∙ walk_fine (next_of (goal.at.unreachable-requires c).In-Some)
+    (line_numbers c.args.line.now c.requires.line_value))
 
 pub bounds-numbers-count : goal.bounds-numbers-count
 bounds-numbers-count c =
-    let h = (goal.at.bounds-numbers-count c).At-loop-at in
-    omega (arith, one_of c, long_of h, h.requires.line_in_bounds)
+    let next = next_of (goal.at.bounds-numbers-count c).In-Some in
+    let some = eqb-false _ _ (sym c.is_empty.ensures ∙ c.if-not-is_empty.true) in
+    omega (
+      arith,
+      walk_one next c.in-Some-read_digits.ensures.0 (omega (arith, some)),
+      c.loop-part.auto.numbers,
+      c.requires.line_in_bounds,
+    )
 
-pub loop-at-smaller-then-at-part : goal.loop-at-smaller-then-at-part
-loop-at-smaller-then-at-part c = omega (arith, next_of (goal.at.loop-at-smaller-then-at-part c).After-read_piece-part)
-
-pub loop-at-preserved-then-at-part : goal.loop-at-preserved-then-at-part
-loop-at-preserved-then-at-part c =
-    let call = (goal.at.loop-at-preserved-then-at-part c).After-read_piece-part in
-    let h = (goal.at.After-read_piece-part call).At-loop-at in
-    let numbers = numbers_in (line_at h) in
-    let count = h.loop-at.count in
-    let at = h.loop-at.at in
-    let next = call.read_piece-part.result.next in
-    let l = call.loop-at-test.true in
-    let small = small_of (goal.at.After-read_piece-part call).In-loop-at in
-    let value : call.read_piece-part.result.value ≡ get_or numbers count 0 =
-    call.read_piece-part.ensures.value_value (call.read_piece-part.ensures.good_value ∙ small)
-    ∙ sym (walk_value (line_at h) at count h.loop-at.invariant.0 l next (next_of call) small c.if-at-part.true) in
+pub loop-part-preserved-then-not-is_empty : goal.loop-part-preserved-then-not-is_empty
+loop-part-preserved-then-not-is_empty c =
+    let line = c.args.line.now in
+    let numbers = numbers_in line in
+    let slice = c.args.numbers.now in
+    let count = c.loop-part.count in
+    let walked = c.loop-part.invariant in
+    let next = next_of (goal.at.loop-part-preserved-then-not-is_empty c).In-Some in
+    let told = c.in-Some-read_digits.ensures in
+    let some = eqb-false _ _ (sym c.is_empty.ensures ∙ c.if-not-is_empty.true) in
+    let n = length_push c.loop-part.yielded c.in-Some.part in
+    let one = walk_one next told.0 (omega (arith, some)) in
+    let value = told.1 ∙ walk_value next told.0 (omega (arith, some)) in
     let more : take (count + 1) numbers ≡ take count numbers ++ (get_or numbers count 0 ∷ []) =
-    ap (λ (k : ℕ). take k numbers) (add-one count) ∙ take-suc numbers count 0 (one_of c) in (
-      walk_turn (line_at h) at count h.loop-at.invariant.0 l next (next_of call) small c.if-at-part.true,
-      placed_next h.args.numbers.now h.loop-at.numbers 0 (take count numbers)
-          call.read_piece-part.result.value
-          count
-          h.loop-at.invariant.1
-          (omega (arith, passed_of h))
-          (omega (arith, one_of c, h.requires.line_in_bounds))
-          ∙ ap (placed h.args.numbers.now 0)
-          (ap (λ (v : ℕ). take count numbers ++ (v ∷ [])) value ∙ sym more),
-    )
+    ap (λ (k : ℕ). take k numbers) (add-one count) ∙ take-suc numbers count 0 one in
+    record {
+      reached = subst (λ (k : ℕ). Reached line (drop k (parts line c.args.word)) (count + 1)) (sym n)
+          (walk_turn next told.0 (omega (arith, some)));
+      written = placed_next slice c.loop-part.numbers 0 (take count numbers) c.in-Some-read_digits.value count
+          walked.written
+          (omega (arith, length-take-le count numbers walked.reached.some))
+          (omega (arith, one, c.requires.line_in_bounds))
+          ∙ ap (placed slice 0) (ap (λ (v : ℕ). take count numbers ++ (v ∷ [])) value ∙ sym more);
+    }
 
-pub loop-at-smaller : goal.loop-at-smaller
-loop-at-smaller c = omega (arith, next_of (goal.at.loop-at-smaller c).After-read_piece-part)
-
-pub loop-at-preserved : goal.loop-at-preserved
-loop-at-preserved c =
-    let call = (goal.at.loop-at-preserved c).After-read_piece-part in
-    let h = (goal.at.After-read_piece-part call).At-loop-at in (
-      walk_skips (line_at h) h.loop-at.at h.loop-at.count h.loop-at.invariant.0 call.loop-at-test.true
-          call.read_piece-part.result.next
-          (next_of call)
-          (small_of (goal.at.After-read_piece-part call).In-loop-at)
-          c.if-at-part.false,
-      h.loop-at.invariant.1,
-    )
+pub loop-part-preserved : goal.loop-part-preserved
+loop-part-preserved c =
+    let line = c.args.line.now in
+    let next = next_of (goal.at.loop-part-preserved c).In-Some in
+    let n = length_push c.loop-part.yielded c.in-Some.part in
+    record {
+      reached = subst (λ (k : ℕ). Reached line (drop k (parts line c.args.word)) c.loop-part.count) (sym n)
+          (walk_skips next c.in-Some-read_digits.ensures.0
+          (eqb-true _ _ (sym c.is_empty.ensures ∙ c.if-not-is_empty.false)));
+      written = c.loop-part.invariant.written;
+    }
 
 pub returns : goal.returns
 returns c =
-    let h = (goal.at.returns c).At-loop-at in
-    let all = walk_all (line_at h) h.loop-at.at h.loop-at.count h.loop-at.invariant.0 c.loop-at-test.false in
-    h.loop-at.invariant.1
-    ∙ ap (placed h.args.numbers.now 0)
-    (take_all h.loop-at.count (numbers_in (line_at h)) (omega (arith, all)))
+    let last = last_of (goal.at.returns c).In-None in
+    c.loop-part.invariant.written
+    ∙ ap (placed c.args.numbers.now 0)
+    (take_all c.loop-part.count (numbers_in c.args.line.now) (omega (arith, walk_all last)))

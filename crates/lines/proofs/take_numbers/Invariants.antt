@@ -1,17 +1,14 @@
--- `lines::take_numbers` meets its contract: the loop goes from space to space, and the first `count` numbers of the
--- line stand at the front of the slice. Every piece is a number or empty, for the line is a word and numbers. What is
--- left of the line falls. Assumes nothing.
+-- The loop goes from part to part, and the first `count` numbers of the line stand at the front of the slice. Assumes
+-- nothing.
 use mathlib.Core.Path.{◌≡◌}
-use Prim.Native.Nat.{◌-◌}
-use lib.ListN.{length, take}
+use lib.ListN.{length, take, drop}
 use Rattle.lines.specs.Line.{placed}
 use Rattle.lines.specs.Read.{numbers_in}
-use Rattle.lines.proofs.Walk.{Reached}
+use Rattle.lines.proofs.Walk.{Reached, parts}
 use Rattle.lines.proofs.take_numbers.Given as goal
 
-abbrev pub invariant-loop-at : goal.invariant-loop-at
-invariant-loop-at l =
-    Reached l.line l.at l.count × (l.numbers ≡ placed l.initial.numbers 0 (take l.count (numbers_in l.line)))
-
-abbrev pub decreases-loop-at : goal.decreases-loop-at
-decreases-loop-at l = length l.line - l.at
+abbrev pub invariant-loop-part : goal.invariant-loop-part
+invariant-loop-part l = record {
+  reached : Reached l.line (drop (length l.yielded) (parts l.line l.word)) l.count;
+  written : l.numbers ≡ placed l.initial.numbers 0 (take l.count (numbers_in l.line));
+}

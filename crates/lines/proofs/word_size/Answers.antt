@@ -1,25 +1,22 @@
--- `lines::word_size` meets its contract: no space lies below place `at`, so the first piece is the bytes passed and
--- the piece from `at` on, which is empty where a space stands or where the line ends. What is left of the line falls.
--- Assumes nothing.
-use Rattle.std.proofs.Common.{ap, length, arith}
+-- The chain finds the first space, and the first piece of the line ends there, or with the line. Assumes nothing.
+use mathlib.Core.Path.{◌≡◌, ap, ◌∙◌}
+use lib.Dec.{eqb}
+use lib.ListN.{length}
+use borrow.Author.Rules.{rules}
+use borrow.Author.Tests.{tests}
+use Rattle.std.proofs.lemmas.Iterator.{YieldsList-from_slice}
+use Rattle.std.proofs.lemmas.Iterator.Search.{position_from_yields_List}
+use Rattle.std.specs.List.{position}
+use Rattle.std.specs.Option.{unwrap_or}
 use Rattle.lines.specs.Read.{word_in}
-use Rattle.lines.proofs.Pieces.{piece_stops, piece_goes, piece_end}
+use Rattle.lines.proofs.Pieces.{piece_found}
 use Rattle.lines.proofs.word_size.Goals as goal
-
-pub returns-then-line-at-eq32 : goal.returns-then-line-at-eq32
-unfolding word_in
-returns-then-line-at-eq32 c =
-    omega (arith, ap length (piece_stops c.args.line.now c.loop-at.at c.loop-at-test.true c.if-line-at-eq32.true))
-
-pub loop-at-preserved : goal.loop-at-preserved
-loop-at-preserved c = record {
-  within = omega arith;
-  passed = omega (
-    arith,
-    ap length (piece_goes c.args.line.now c.loop-at.at c.loop-at-test.true c.if-line-at-eq32.false),
-  );
-}
 
 pub returns : goal.returns
 unfolding word_in
-returns c = omega (arith, ap length (piece_end c.args.line.now c.loop-at.at c.loop-at-test.false))
+returns c =
+    let line = c.args.line.now in
+    let found : c.position.result ≡ position (λ byte. eqb byte 32) line =
+    position_from_yields_List (λ byte. eqb byte 32) _ _ c.position.result c.position.ensures.ran
+    (YieldsList-from_slice line c.iter.ensures.rest) (λ x b q k. search (rules, tests)) in
+    c.unwrap_or.ensures ∙ ap (λ at. unwrap_or at (length line)) found ∙ piece_found line

@@ -2,11 +2,7 @@
 -- Assumes nothing.
 use mathlib.Core.Path.{◌≡◌, sym, ◌∙◌}
 use Rattle.listing.proofs.outcome.Reads as Reads
-use Rattle.listing.proofs.outcome.Goals as goal
 
 -- the contract admits one reply
 pub only_one : (κs : _) (a : _) (r s : _) (x y : _) → Reads.Post κs a r x → Reads.Post κs a s y → r ≡ s
 only_one κs a r s x y p q = p ∙ sym q
-
-pub returns : goal.returns
-returns c = c.tell-told.ensures.0.outcome

@@ -8,6 +8,7 @@ use Rattle.sizes.specs.Sizes.{table_rows}
 use Rattle.sizes.proofs.Laws.{inside, by_n_inside, by_n_low, by_n_high, table_le}
 use Rattle.runfile.specs.File.{heading_bytes}
 use Rattle.listing.specs.File.{table_bytes, table_begins, begins_reply}
+use Rattle.listing.proofs.Behind.{rows_inside}
 use borrow.Author.Rules.{rules}
 use Rattle.listing.proofs.table_begins.Reads as Reads
 use Rattle.listing.proofs.table_begins.Goals as goal
@@ -18,7 +19,7 @@ inside_of : (c : After-table_rows) → (1 ≤ c.args.n) × (c.args.n ≤ 13)
 inside_of c = (search rules, search rules)
 
 rows_of : (c : After-table_rows) → c.table_rows.result ≡ table_rows c.args.n
-rows_of c = c.table_rows.ensures ∙ by_n_inside table_rows _ (inside _ (inside_of c).0 (inside_of c).1)
+rows_of c = rows_inside _ _ c.table_rows.ensures (inside_of c).0 (inside_of c).1
 
 most_of : (c : After-table_rows) →
     (8 * c.table_rows.result ≤ 36504)

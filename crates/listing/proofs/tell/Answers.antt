@@ -1,25 +1,32 @@
 -- `listing::tell` meets its contract: the last line stands behind the others, and together they are the listing.
 -- Assumes nothing.
-use mathlib.Core.Path.{subst}
-use Prim.Native.Nat.{◌≤◌}
-use native.Mathlib.Omega.{arith}
-use lib.ListN.{length}
-use Rattle.listing.specs.Inside.{Put}
-use Rattle.listing.proofs.Text.{put_then}
-use Rattle.listing.proofs.Whole.{with_last}
+use mathlib.Core.Path.{ap, ◌∙◌}
+use mathlib.Core.List.{List, ◌++◌}
+use Prim.Native.Nat.{ℕ}
+use Rattle.run.specs.declared.Run.{Run}
+use Rattle.run.specs.declared.Next.{Next}
+use Rattle.run.specs.State.{zeros}
+use Rattle.listing.specs.Listing.{last_line}
+use Rattle.listing.proofs.Whole.{outcome_sent, outcome_refused, with_last}
 use Rattle.listing.proofs.tell.Goals as goal
-use Rattle.listing.proofs.tell.Goals.{After-put_last-size, After-tell_lines-told, Start}
 
-pub returns : goal.returns
-returns c =
-    let last = (goal.at.returns c).After-put_last-size in
-    let t = (goal.at.After-put_last-size last).After-tell_lines-told in
-    let s = (goal.at.After-tell_lines-told t).Start in
-    let told = t.tell_lines-told.ensures in
-    let put = last.put_last-size.ensures in
-    let room : last.put_last-size.result ≤ length s.args.text.now =
-    omega (arith, told.1, put.1, s.requires) in
-    let text = put_then told.0.text put.0 room in (
-      record { outcome = told.0.outcome; text = subst (Put _ _ _ _) (with_last _ _ told.0.outcome) text },
-      omega (arith, told.1, put.1),
-    )
+pub returns-in-Ok-clause-outcome : goal.returns-in-Ok-clause-outcome
+returns-in-Ok-clause-outcome c = outcome_sent _ _ c.in-Ok.ensures.ends
+
+pub returns-in-Ok-clause-text : goal.returns-in-Ok-clause-text
+returns-in-Ok-clause-text c =
+    c.put_sent.ensures
+    ∙ ap (λ (xs : List ℕ). xs ++ last_line 0 c.in-Ok.last.sent) c.in-Ok.ensures.text
+    ∙ with_last _ _ (outcome_sent _ _ c.in-Ok.ensures.ends)
+
+pub returns-in-Err-clause-outcome : goal.returns-in-Err-clause-outcome
+returns-in-Err-clause-outcome c =
+    ap {B = Next} (λ (s : Run). record { refusal = c.in-Err.refusal; run = s }) c.no_run.ensures
+    ∙ outcome_refused _ _ c.in-Err.ensures.ends
+
+pub returns-in-Err-clause-text : goal.returns-in-Err-clause-text
+unfolding zeros
+returns-in-Err-clause-text c =
+    c.put_refused.ensures
+    ∙ ap (λ (xs : List ℕ). xs ++ last_line c.in-Err.refusal 0) c.in-Err.ensures.text
+    ∙ with_last _ _ (outcome_refused _ _ c.in-Err.ensures.ends)

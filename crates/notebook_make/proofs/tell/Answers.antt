@@ -4,6 +4,7 @@ use Prim.Native.Nat.{◌≤◌}
 use mathlib.Core.Path.{◌≡◌, refl, sym, ap, ◌∙◌}
 use native.Mathlib.Omega.{arith}
 use lib.ListN.{length}
+use lib.Seq.{length-take-le}
 use Rattle.lines.specs.declared.Written.{Written}
 use Rattle.says.specs.Told.{told_text}
 use Rattle.says.proofs.Faults.{text_given, text_within}
@@ -31,8 +32,14 @@ whole c =
     ap (λ (w : Written). w.size) (c.tell-size.ensures.value
     ∙ sym (text_given (told_text f.refusal f.line f.fault) 110 _ refl short))
 
+pub slice_bounds-told-end : goal.slice_bounds-told-end
+slice_bounds-told-end c =
+    let t = (goal.at.slice_bounds-told-end c).After-tell-size in
+    omega (arith, written t, t.tell-size.auto)
+
 pub slice_bounds-write_all-end : goal.slice_bounds-write_all-end
-slice_bounds-write_all-end c = written (goal.at.slice_bounds-write_all-end c).After-tell-size
+slice_bounds-write_all-end c =
+    sym (length-take-le _ _ (written (goal.at.slice_bounds-write_all-end c).After-tell-size))
 
 pub returns : goal.returns
 returns c = whole (goal.at.returns c).After-tell-size

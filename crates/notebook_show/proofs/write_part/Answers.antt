@@ -7,18 +7,16 @@ use lib.Seq.{length-take-le}
 use Rattle.showing.specs.declared.Shown.{Shown}
 use Rattle.showing.proofs.Room.{show_within}
 use Rattle.notebook_show.proofs.write_part.Goals as goal
-use Rattle.notebook_show.proofs.write_part.Goals.{After-shared_slice_known-1, After-show-size}
+use Rattle.notebook_show.proofs.write_part.Goals.{After-show-size}
 
 -- what was written is part of the text
 written : (c : After-show-size) → c.show-size.result.size ≤ length c.show-size.new.out
 written c =
-    let known = (goal.at.After-show-size c).After-shared_slice_known-1 in
-    let f = known.args in
+    let a = c.args in
     omega (
       arith,
       ap (λ (r : Shown). r.size) c.show-size.ensures.value,
-      show_within f.file.now f.part (length f.text.now)
-          (λ i. omega (arith, known.shared_slice_known-1.given i)),
+      show_within a.file.now a.part (length a.text.now) (λ i. (c.type_inv.file i).fits),
       c.show-size.auto,
     )
 

@@ -1,8 +1,6 @@
--- `run::no_run` meets its contract: each number is 0, each array is made of zeros, and there are no reasons. Assumes
--- nothing.
-use mathlib.Core.Path.{◌≡◌, sym, ◌∙◌}
-use lib.ListN.{replicate}
-use Rattle.run.specs.State.{zeros}
+-- `run::no_run` meets its contract: each number is 0, and each array is made of zeros. Assumes nothing.
+use mathlib.Core.Path.{◌≡◌, refl, sym, ◌∙◌}
+use Rattle.run.specs.State.{no_reasons, zeros}
 use Rattle.run.proofs.no_run.Reads as Reads
 use Rattle.run.proofs.no_run.Goals as goal
 
@@ -11,16 +9,5 @@ pub only_one : (κs : _) (a : _) (r s : _) (x y : _) → Reads.Post κs a r x �
 only_one κs a r s x y p q = p ∙ sym q
 
 pub returns : goal.returns
-unfolding zeros
-returns c =
-    λ i.
-    record {
-      n = 0;
-      t = 0;
-      faulty = 0;
-      done = 0;
-      sent = 0;
-      rows = replicate 13 0;
-      lists = replicate 13 0;
-      reasons = c.no_reasons.ensures i;
-    }
+unfolding zeros no_reasons
+returns c = refl

@@ -1,5 +1,4 @@
--- `runfile::has_sound_zero` meets its contract: a turn ends the search where box k is sound and its row is 0, and
--- otherwise none of the first k + 1 boxes is such. What is left of n falls. Assumes nothing.
+-- A turn tests box k by its row in the heading. Assumes nothing.
 use mathlib.Core.Path.{◌≡◌, sym, ap, ◌∙◌}
 use mathlib.Core.Bool.{◌&&◌}
 use Prim.Native.Nat.{ℕ}
@@ -8,7 +7,6 @@ use lib.Dec.{eqb}
 use Rattle.counting.proofs.Loops.{search_begins, search_turn, search_hits, search_ends}
 use Rattle.counting.proofs.Build.{get_or_build}
 use Rattle.sizes.specs.Sizes.{sound, sound_zero}
-use Rattle.sizes.proofs.Laws.{inside_high}
 use Rattle.runfile.specs.File.{heading_row, row_from, heading_bytes}
 use borrow.Author.Rules.{rules}
 use Rattle.runfile.proofs.has_sound_zero.Invariants.{zero_at}
@@ -43,9 +41,6 @@ overflow_add-k c = omega arith
 pub number8-requires : goal.number8-requires
 unfolding heading_bytes
 number8-requires c = omega arith
-
-pub is_sound_zero-requires : goal.is_sound_zero-requires
-is_sound_zero-requires c = omega (arith, inside_high _ c.requires.0)
 
 pub returns-then-is_sound_zero : goal.returns-then-is_sound_zero
 unfolding sound_zero

@@ -1,8 +1,7 @@
--- `runfile::has_sound_zero` meets its contract: a turn ends the search where box k is sound and its row is 0, and
--- otherwise none of the first k + 1 boxes is such. What is left of n falls. Assumes nothing.
+-- None of the first k boxes is sound with a row of 0. Assumes nothing.
 use mathlib.Core.Bool.{Bool, ◌&&◌}
 use mathlib.Core.List.{List}
-use Prim.Native.Nat.{ℕ, ◌-◌}
+use Prim.Native.Nat.{ℕ}
 use lib.Dec.{eqb}
 use lib.ListN.{get_or}
 use Rattle.counting.specs.Count.{build}
@@ -17,6 +16,3 @@ zero_at bytes n faulty j = sound faulty j && eqb (get_or (build n (heading_row b
 
 abbrev pub invariant-loop-k : goal.invariant-loop-k
 invariant-loop-k l = NoneYet l.n (zero_at l.bytes l.n l.faulty) l.k
-
-abbrev pub decreases-loop-k : goal.decreases-loop-k
-decreases-loop-k l = l.n - l.k

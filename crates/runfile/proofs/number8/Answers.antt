@@ -1,10 +1,9 @@
--- `runfile::number8` meets its contract: the number in 8 bytes is that in the first 4, times 256 to the 4, and that
--- in the last 4. Assumes nothing.
-use native.Mathlib.Omega.{arith}
-use Rattle.runfile.proofs.Numbers.{number_split}
+-- The eight bytes that are lent are the number's. Assumes nothing.
+use mathlib.Core.Path.{◌∙◌}
+use Rattle.runfile.proofs.Numbers.{number_of_8}
 use Rattle.runfile.proofs.number8.Goals as goal
 
 pub returns : goal.returns
 returns c =
-    let f = c.args in
-    omega (arith, c.number4-high.ensures.0, c.number4-low.ensures.0, number_split f.bytes.now f.at 4 4)
+    let whole = rw c.unwrap.ensures at c.try_into.ensures.1 in
+    c.from_be_bytes.ensures ∙ number_of_8 c.args.bytes.now c.args.at c.unwrap.result whole.same

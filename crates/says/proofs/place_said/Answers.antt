@@ -1,77 +1,59 @@
--- `says::place_said` meets its contract: sender, receiver and leader are digits in base n, so the places of a step are
--- below n² or n³, and n is at most 13. Assumes nothing.
-use mathlib.Core.Path.{sym}
-use Prim.Native.Nat.{◌<◌}
-use native.Mathlib.Omega.{arith}
-use Rattle.sizes.proofs.Laws.{square_le, cube_le}
-use Rattle.says.proofs.Places.{
-  pair,
-  triple,
-  pair_fits,
-  triple_fits,
-  said_first,
-  said_second,
-  said_third,
+-- `says::place_said` meets its contract: the place is that of the step, whose numbers the slice has, and no step has
+-- other numbers. Assumes nothing.
+use Rattle.says.proofs.Named.{
+  no_place,
+  first_place,
+  not_placed,
+  later_placed,
+  second_is,
+  third_is,
+  other_numbers,
 }
+use native.Mathlib.Omega.{arith}
+use borrow.Author.Rules.{rules}
 use Rattle.says.proofs.place_said.Goals as goal
-use Rattle.says.proofs.place_said.Goals.{Else-numbers-eq1, Start}
 
--- the place of sender and receiver is below 169
-pair_of : (s : Start) → pair s.args.n s.args.numbers.now < 169
-pair_of s = omega (arith, pair_fits s.args.n s.args.numbers.now s.requires.1, square_le s.requires.0)
+pub returns-in-len5 : goal.returns-in-len5
+returns-in-len5 c = first_place _ _ c.if-step-eq1.true (omega arith) _ c.pair.ensures
 
-abbrev start_of : Else-numbers-eq1 → Start
-start_of c = (goal.at.Else-numbers-eq1 c).Start
+pub returns-in_err-triple-in-len6 : goal.returns-in_err-triple-in-len6
+returns-in_err-triple-in-len6 c =
+    no_place _ _ _ (search rules)
+    (not_placed _ _ (omega (arith, c.if-step-eq2.true)) c.in_err-triple-in-len6.ensures)
 
--- with the leader it is below 2,197
-triple_of : (c : Else-numbers-eq1) → triple c.args.n c.args.numbers.now < 2197
-triple_of c =
-    let s = start_of c in
-    omega (
-      arith,
-      triple_fits s.args.n s.args.numbers.now s.requires.1 c.if-numbers-eq1.false,
-      cube_le s.requires.0,
+pub returns-in_err-triple-in-len6-2 : goal.returns-in_err-triple-in-len6-2
+returns-in_err-triple-in-len6-2 c =
+    no_place _ _ _ (search rules)
+    (not_placed _ _ (omega (arith, c.if-step-eq3.true)) c.in_err-triple-in-len6-2.ensures)
+
+pub returns-in_ok-triple-in-len6 : goal.returns-in_ok-triple-in-len6
+returns-in_ok-triple-in-len6 c =
+    let e = c.in_ok-triple-in-len6.ensures in
+    let two = c.if-step-eq2.true in (
+      later_placed _ _ (omega (arith, two)) (omega (arith, two)) (omega arith) (e.0, e.1, e.2),
+      second_is _ _ _ two e.3,
     )
 
-pub overflow_mul-pair : goal.overflow_mul-pair
-overflow_mul-pair c = omega (arith, pair_of (goal.at.overflow_mul-pair c).Start)
+pub returns-in_ok-triple-in-len6-2 : goal.returns-in_ok-triple-in-len6-2
+returns-in_ok-triple-in-len6-2 c =
+    let e = c.in_ok-triple-in-len6-2.ensures in
+    let three = c.if-step-eq3.true in (
+      later_placed _ _ (omega (arith, three)) (omega (arith, three)) (omega arith) (e.0, e.1, e.2),
+      third_is _ _ _ three e.3,
+    )
 
-pub overflow_add-pair : goal.overflow_add-pair
-overflow_add-pair c = omega (arith, pair_of (goal.at.overflow_add-pair c).Start)
+pub returns-in_default : goal.returns-in_default
+returns-in_default c =
+    other_numbers _ _ (λ l s. omega (arith, l)) (λ l s. omega (arith, l)) (λ l s. omega (arith, l))
 
-pub returns-then-numbers-eq1 : goal.returns-then-numbers-eq1
-returns-then-numbers-eq1 c = sym (said_first c.args.n _ c.if-numbers-eq1.true)
+pub returns-in_default-2 : goal.returns-in_default-2
+returns-in_default-2 c =
+    other_numbers _ _ (λ l s. c.if-step-eq1.false s) (λ l s. omega (arith, l)) (λ l s. omega (arith, l))
 
-pub overflow_sub-leader : goal.overflow_sub-leader
-overflow_sub-leader c = (c.requires.1.leader c.if-numbers-eq1.false).low
+pub returns-in_default-3 : goal.returns-in_default-3
+returns-in_default-3 c =
+    other_numbers _ _ (λ l s. omega (arith, l)) (λ l s. c.if-step-eq2.false s) (λ l s. c.if-step-eq3.false s)
 
-pub overflow_mul-square : goal.overflow_mul-square
-overflow_mul-square c = omega (arith, square_le c.requires.0)
-
-pub overflow_mul-place : goal.overflow_mul-place
-overflow_mul-place c = omega (arith, triple_of (goal.at.overflow_mul-place c).Else-numbers-eq1)
-
-pub overflow_add-place : goal.overflow_add-place
-overflow_add-place c = omega (arith, triple_of (goal.at.overflow_add-place c).Else-numbers-eq1)
-
-pub overflow_add-result : goal.overflow_add-result
-overflow_add-result c =
-    let later = (goal.at.overflow_add-result c).Else-numbers-eq1 in
-    omega (arith, triple_of later, square_le c.requires.0)
-
-pub returns-then-numbers-eq2 : goal.returns-then-numbers-eq2
-returns-then-numbers-eq2 c = sym (said_second c.args.n _ c.if-numbers-eq2.true)
-
-pub overflow_mul-result : goal.overflow_mul-result
-overflow_mul-result c = omega (arith, cube_le c.requires.0)
-
-pub overflow_add-result-2 : goal.overflow_add-result-2
-overflow_add-result-2 c = omega (arith, square_le c.requires.0, cube_le c.requires.0)
-
-pub overflow_add-result-3 : goal.overflow_add-result-3
-overflow_add-result-3 c =
-    let later = (goal.at.overflow_add-result-3 c).Else-numbers-eq1 in
-    omega (arith, triple_of later, square_le c.requires.0, cube_le c.requires.0)
-
-pub returns : goal.returns
-returns c = sym (said_third c.args.n _ c.if-numbers-eq1.false c.if-numbers-eq2.false)
+pub returns-in_default-4 : goal.returns-in_default-4
+returns-in_default-4 c =
+    other_numbers _ _ (λ l s. omega (arith, l)) (λ l s. omega (arith, l)) (λ l s. omega (arith, l))

@@ -41,5 +41,5 @@ pub returns : goal.returns
 unfolding told_text
 returns c =
     let a = c.args in
-    rw (eq-eqb a.refusal 0 c.if-refused.false, ne_eqb a.fault 0 c.if-fault-eq0.false)
-    c.tell_fault.ensures
+    rw (eq-eqb a.refusal 0 c.if-refused.false, ne_eqb a.fault 0 c.if-fault-eq0.false, ← c.sentence.ensures.0)
+    c.write_fault.ensures

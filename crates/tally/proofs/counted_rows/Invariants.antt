@@ -1,7 +1,5 @@
--- `tally::counted_rows` meets its contract: after i turns the first i places hold the counted rows of leaders below i.
--- What is left of the length falls. Assumes nothing.
+-- After i turns the first i places hold the counted rows of the leaders below i.
 use mathlib.Core.Bool.{cond}
-use Prim.Native.Nat.{◌-◌}
 use lib.Dec.{eqb}
 use lib.ListN.{length, get_or, replicate}
 use Rattle.counting.proofs.Loops.{Filled}
@@ -11,6 +9,3 @@ abbrev pub invariant-loop-i : goal.invariant-loop-i
 invariant-loop-i l =
     Filled (length l.rows) (λ k. cond (eqb (get_or l.confidences k 0) 0) 0 (get_or l.rows k 0))
     (replicate 13 0) l.i l.out
-
-abbrev pub decreases-loop-i : goal.decreases-loop-i
-decreases-loop-i l = length l.rows - l.i

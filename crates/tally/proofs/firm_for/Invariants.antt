@@ -1,7 +1,5 @@
--- `tally::firm_for` meets its contract: after i turns it has counted the leaders below i with confidence 2 that hold
--- the chosen row. What is left of the length falls. Assumes nothing.
+-- After i turns the leaders below i with confidence 2 that hold the chosen row are counted.
 use mathlib.Core.Bool.{◌&&◌}
-use Prim.Native.Nat.{◌-◌}
 use lib.Dec.{eqb}
 use lib.ListN.{length, get_or}
 use Rattle.counting.proofs.Loops.{Counted}
@@ -10,6 +8,3 @@ use Rattle.tally.proofs.firm_for.Given as goal
 abbrev pub invariant-loop-i : goal.invariant-loop-i
 invariant-loop-i l =
     Counted (length l.rows) (λ k. eqb (get_or l.confidences k 0) 2 && eqb (get_or l.rows k 0) l.chosen) l.i l.firm
-
-abbrev pub decreases-loop-i : goal.decreases-loop-i
-decreases-loop-i l = length l.rows - l.i

@@ -6,6 +6,7 @@ use lib.ListN.{length}
 use Rattle.sizes.specs.Sizes.{size_refusal}
 use Rattle.sizes.proofs.Laws.{passes_sized}
 use Rattle.tally.specs.Tally.{support_of, confidence_of}
+use Rattle.sizes.proofs.Numbers.{named}
 use Rattle.tally.proofs.Laws.{support_le}
 use Rattle.tally.proofs.Replies.{grade_refused, grade_taken, lead_support, lead_confidence, lead_row, no_row}
 use Rattle.tally.proofs.grade.Reads as Reads
@@ -14,7 +15,7 @@ use Rattle.tally.proofs.grade.Goals.{After-confidence_at-confidence, After-lead_
 
 -- where the lead is found: the call is not refused, and the lead's support is that of the grade
 taken : (c : After-lead_of-lead) → size_refusal (length c.args.rows.now) c.args.t ≡ 0
-taken c = sym c.size_refusal-refusal.ensures ∙ c.if-refusal-ne0.false
+taken c = sym c.in_default.ensures
 
 supported : (c : After-lead_of-lead) → c.lead_of-lead.result.support ≡ support_of c.args.rows.now
 supported c = lead_support _ c.args.t _ c.lead_of-lead.ensures
@@ -29,8 +30,9 @@ is c = lead_confidence _ _ _ _ c.lead_of-lead.ensures c.confidence_at-confidence
 pub only_one : (κs : _) (a : _) (r s : _) (x y : _) → Reads.Post κs a r x → Reads.Post κs a s y → r ≡ s
 only_one κs a r s x y p q = p ∙ sym q
 
-pub returns-then-refusal-ne0 : goal.returns-then-refusal-ne0
-returns-then-refusal-ne0 c = grade_refused _ _ _ c.size_refusal-refusal.ensures c.if-refusal-ne0.true
+pub returns-in-Err : goal.returns-in-Err
+returns-in-Err c =
+    grade_refused _ _ _ (c.from.ensures ∙ c.in-Err.ensures) (λ z. named _ (sym c.from.ensures ∙ z))
 
 -- it is at most 13
 pub overflow_cast-support : goal.overflow_cast-support

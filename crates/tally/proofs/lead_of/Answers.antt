@@ -1,6 +1,5 @@
--- `tally::lead_of` meets its contract: after i turns the lead is the best of the first i rows, with its support. A
--- lead with more than half of the places is the best of all, and so is one with more places than are left. What is
--- left of the length falls. Assumes nothing.
+-- `tally::lead_of` meets its contract: a turn makes the lead that of one row more. A lead with more than half of the
+-- places is the best of all, and so is one with more places than are left. Assumes nothing.
 use mathlib.Core.Path.{◌≡◌, refl}
 use Prim.Native.Nat.{◌+◌}
 use native.Mathlib.Omega.{arith}
@@ -31,7 +30,7 @@ returns-then-rows-lead c =
 pub returns-then-rows-i : goal.returns-then-rows-i
 returns-then-rows-i c =
     let turn = (goal.at.returns-then-rows-i c).After-ahead-lead in
-    lead_early _ _ _ (next_lead turn) (omega arith) c.if-rows-i.true
+    lead_early _ _ _ (next_lead turn) (omega arith) (omega (arith, c.if-rows-i.true))
 
 pub loop-i-preserved : goal.loop-i-preserved
 loop-i-preserved c =

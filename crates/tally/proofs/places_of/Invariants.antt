@@ -1,13 +1,8 @@
--- `tally::places_of` meets its contract: after i turns it has counted the places below i that hold v. What is left of
--- the length falls. Assumes nothing.
-use Prim.Native.Nat.{◌-◌}
+-- The places that were looked at and hold v are counted.
 use lib.Dec.{eqb}
 use lib.ListN.{length, get_or}
 use Rattle.counting.proofs.Loops.{Counted}
 use Rattle.tally.proofs.places_of.Given as goal
 
-abbrev pub invariant-loop-i : goal.invariant-loop-i
-invariant-loop-i l = Counted (length l.rows) (λ k. eqb (get_or l.rows k 0) l.v) l.i l.found
-
-abbrev pub decreases-loop-i : goal.decreases-loop-i
-decreases-loop-i l = length l.rows - l.i
+abbrev pub invariant-loop-row : goal.invariant-loop-row
+invariant-loop-row l = Counted (length l.rows) (λ k. eqb (get_or l.rows k 0) l.v) l.row-index l.found

@@ -9,5 +9,5 @@ returns-then-v-eq0 c =
     sym (ap (support c.args.rows.now) c.if-v-eq0.true
     ∙ support_zero c.args.rows.now)
 
-pub returns : goal.returns
-returns c = c.places_of.ensures ∙ sym (support_places _ _ c.if-v-eq0.false)
+pub returns-else-v-eq0 : goal.returns-else-v-eq0
+returns-else-v-eq0 c = c.places_of.ensures ∙ sym (support_places _ _ c.if-v-eq0.false)

@@ -1,105 +1,62 @@
 -- `run::Run::iterate` meets its contract: it refuses with the state as it came; otherwise steps 1 to 4 are
--- gradecast's, step 5 fills the lists, the reasons and the rows, and the counters grow. Assumes nothing.
+-- gradecast's, step 5 fills the rows, the lists and the reasons, and the counters grow. Assumes nothing.
 use mathlib.Core.Path.{◌≡◌, sym, ◌∙◌}
 use native.Mathlib.Omega.{arith}
 use Rattle.counting.specs.Count.{build}
+use Rattle.sizes.proofs.Numbers.{named}
 use Rattle.run.specs.Iteration.{entry, new_list}
-use Rattle.run.specs.State.{iterate_refusal}
 use Rattle.run.proofs.Accepted.{Iterable, is_accepted}
 use Rattle.run.proofs.Refusals.{iterate_refused, iterate_taken}
-use Rattle.run.proofs.Whole.{
-  high,
-  done_small,
-  sent_small,
-  cast_cells,
-  rows_are,
-  lists_are,
-  keeping,
-  reasons_are,
-  next_is,
-}
+use Rattle.run.proofs.Whole.{high, done_small, sent_small, rows_are, lists_are, keeping, reasons_are, next_is}
+use borrow.Author.Rules.{rules}
 use Rattle.run.proofs.Run.iterate.Reads as Reads
 use Rattle.run.proofs.Run.iterate.Goals as goal
-use Rattle.run.proofs.Run.iterate.Goals.{
-  After-step5_lists-listed,
-  After-step5_reasons-reasons,
-  After-step5_rows,
-  After-steps-cast,
-  Else-refusal-ne0,
-}
+use Rattle.run.proofs.Run.iterate.Goals.{In_default, After-step5_places}
 
--- where the refusal is 0 the call is accepted
-not_refused : (c : Else-refusal-ne0) → let a = c.args in iterate_refusal a.self a.table.now ≡ 0
-not_refused c = sym c.iterate_refusal-refusal.ensures ∙ c.if-refusal-ne0.false
-
-accepted : (c : Else-refusal-ne0) → let a = c.args in Iterable a.self a.table.now
-accepted c = is_accepted _ _ (not_refused c)
-
--- where the tests have let the call pass, from where steps has answered
-abbrev passed : After-steps-cast → Else-refusal-ne0
-passed c = (goal.at.After-steps-cast c).Else-refusal-ne0
-
--- where steps has answered, from where the lists of step 5 are there
-abbrev cast_given : After-step5_lists-listed → After-steps-cast
-cast_given c = (goal.at.After-step5_lists-listed c).After-steps-cast
-
--- where the lists of step 5 are there, from where its reasons are
-abbrev lists_given : After-step5_reasons-reasons → After-step5_lists-listed
-lists_given c = (goal.at.After-step5_reasons-reasons c).After-step5_lists-listed
-
--- where the reasons of step 5 are there, from where its rows are
-abbrev reasons_given : After-step5_rows → After-step5_reasons-reasons
-reasons_given c = (goal.at.After-step5_rows c).After-step5_reasons-reasons
+-- where no test has refused the call it is accepted
+accepted : (c : In_default) → Iterable c.args.self c.args.table.now
+accepted c = is_accepted _ _ (sym c.in_default.ensures)
 
 -- the lists of step 5 are those of the definitions
-listed : (c : After-step5_lists-listed) →
-    let cast = cast_given c in
-    let a = (passed cast).args in
-    c.step5_lists-listed.result ≡ build 13 (entry a.self.n a.self.faulty (new_list a.self a.table.now))
+listed : (c : After-step5_places) →
+    let s = c.args.self in
+    c.step5_places.result.lists ≡ build 13 (entry s.n s.faulty (new_list s c.args.table.now))
 listed c =
-    let cast = cast_given c in
-    c.step5_lists-listed.ensures ∙ lists_are _ _ (accepted (passed cast)) _ cast.steps-cast.ensures
-
-pub overflow_add-run : goal.overflow_add-run
-overflow_add-run c =
-    let cast = cast_given (lists_given (goal.at.overflow_add-run c).After-step5_reasons-reasons) in
-    omega (arith, sent_small _ _ (accepted (passed cast)) cast.steps-cast.result cast.steps-cast.ensures)
+    c.step5_places.ensures.lists
+    ∙ lists_are _ _ (is_accepted _ _ (sym c.in_default.ensures)) _ c.steps-cast.ensures
 
 -- the contract admits one reply
 pub only_one : (κs : _) (a : _) (r s : _) (x y : _) → Reads.Post κs a r x → Reads.Post κs a s y → r ≡ s
 only_one κs a r s x y p q = p ∙ sym q
 
-pub returns-then-refusal-ne0 : goal.returns-then-refusal-ne0
-returns-then-refusal-ne0 c = iterate_refused _ _ _ c.iterate_refusal-refusal.ensures c.if-refusal-ne0.true
+pub returns-in-Err : goal.returns-in-Err
+returns-in-Err c =
+    let e = c.from.ensures in
+    iterate_refused _ _ _ (e ∙ c.in-Err.ensures) (λ z. named _ (sym e ∙ z))
+
+pub step5_places-requires : goal.step5_places-requires
+step5_places-requires c = high _ _ (is_accepted _ _ (sym c.in_default.ensures))
 
 pub overflow_add-done : goal.overflow_add-done
-overflow_add-done c = omega (arith, done_small _ _ (accepted (passed (goal.at.overflow_add-done c).After-steps-cast)))
+overflow_add-done c = omega (arith, done_small _ _ (is_accepted _ _ (sym c.in_default.ensures)))
 
-pub step5_lists-listed-requires : goal.step5_lists-listed-requires
-step5_lists-listed-requires c =
-    let cast = (goal.at.step5_lists-listed-requires c).After-steps-cast in
-    let a = accepted (passed cast) in
-    ((cast_cells _ _ a _ cast.steps-cast.ensures).all_confidences, high _ _ a)
+pub keep-requires : goal.keep-requires
+keep-requires c =
+    keeping _ _ (is_accepted _ _ (sym c.in_default.ensures)) _ c.steps-cast.ensures _
+    (listed (goal.at.keep-requires c).After-step5_places)
 
-pub step5_reasons-reasons-requires : goal.step5_reasons-reasons-requires
-step5_reasons-reasons-requires c =
-    let lists = (goal.at.step5_reasons-reasons-requires c).After-step5_lists-listed in
-    let cast = cast_given lists in
-    keeping _ _ (accepted (passed cast)) _ cast.steps-cast.ensures _ (listed lists)
-
-pub step5_rows-requires : goal.step5_rows-requires
-step5_rows-requires c =
-    let cast = cast_given (lists_given (goal.at.step5_rows-requires c).After-step5_reasons-reasons) in
-    cast_cells _ _ (accepted (passed cast)) _ cast.steps-cast.ensures
+pub overflow_add-run : goal.overflow_add-run
+overflow_add-run c =
+    omega (arith, sent_small _ _ (is_accepted _ _ (sym c.in_default.ensures)) c.steps-cast.result c.steps-cast.ensures)
 
 pub returns : goal.returns
 returns c =
-    let why = reasons_given c in
-    let lists = lists_given why in
-    let cast = cast_given lists in
-    let a = accepted (passed cast) in
-    let e = cast.steps-cast.ensures in
-    iterate_taken _ _ _ (not_refused (passed cast))
-    (next_is _ _ a _ e _ _ _ (c.step5_rows.ensures ∙ rows_are _ _ a _ e) (listed lists)
-    (why.step5_reasons-reasons.ensures.value
-    ∙ reasons_are _ _ a _ e _ (listed lists) why.step5_reasons-reasons.ensures.all_places))
+    let taken = sym c.in_default.ensures in
+    let a = is_accepted _ _ taken in
+    let e = c.steps-cast.ensures in
+    let lists = listed (goal.at.returns c).After-step5_places in
+    iterate_taken _ _ _ taken
+    (next_is _ _ a _ e _ _ _ (c.step5_places.ensures.rows ∙ rows_are _ _ a _ e) lists
+    (c.keep.ensures
+    ∙ reasons_are _ _ a _ e _ lists
+    (record { all_iterations = search rules; all_confidences = search rules; all_supports = search rules })))

@@ -1,43 +1,19 @@
--- `runfile::write::put_row` meets its contract: the definition takes the last byte of the row, of the row by 256, of
--- that by 256 again, and so on; each of these is one division by a power of 256. The eight stores stand side by side.
+-- The bytes that are copied are the row's, each by one division, and stand between what lies before and behind them.
 -- Assumes nothing.
+use mathlib.Core.Path.{sym, ap₂, ◌∙◌}
+use mathlib.Core.List.{List, ◌++◌}
+use Prim.Native.Nat.{ℕ, ◌+◌}
 use native.Mathlib.Omega.{arith}
-use lib.ListN.{length-set}
-use Rattle.runfile.proofs.Put.{eight_bytes, put_eight}
+use lib.ListN.{take}
+use borrow.Rule.Slice.PartMut.{Post-is}
+use Rattle.runfile.specs.File.{in_bytes}
+use Rattle.runfile.proofs.Put.{eight_bytes, length_in_bytes, put_text}
 use Rattle.runfile.proofs.write.put_row.Goals as goal
-
-pub bounds-out-at-2 : goal.bounds-out-at-2
-bounds-out-at-2 c = simp length-set (omega arith)
-
-pub bounds-out-at-3 : goal.bounds-out-at-3
-bounds-out-at-3 c = simp length-set (omega arith)
-
-pub bounds-out-at-4 : goal.bounds-out-at-4
-bounds-out-at-4 c = simp length-set (omega arith)
-
-pub bounds-out-at-5 : goal.bounds-out-at-5
-bounds-out-at-5 c = simp length-set (omega arith)
-
-pub bounds-out-at-6 : goal.bounds-out-at-6
-bounds-out-at-6 c = simp length-set (omega arith)
-
-pub bounds-out-at-7 : goal.bounds-out-at-7
-bounds-out-at-7 c = simp length-set (omega arith)
-
-pub bounds-out-at-8 : goal.bounds-out-at-8
-bounds-out-at-8 c = simp length-set (omega arith)
 
 pub returns : goal.returns
 returns c =
-    let a = c.args in
-    rw (
-      eight_bytes a.row,
-      c.last_byte.ensures,
-      c.last_byte-2.ensures,
-      c.last_byte-3.ensures,
-      c.last_byte-4.ensures,
-      c.last_byte-5.ensures,
-      c.last_byte-6.ensures,
-      c.last_byte-7.ensures,
-      c.last_byte-8.ensures,
-    ) (put_eight a.at a.out.now _ _ _ _ _ _ _ _ (omega (arith, c.requires)))
+    let at = c.args.at in
+    let out = c.args.out.now in
+    let bytes = c.copy_from_slice.ensures.after ∙ c.to_be_bytes.ensures ∙ sym (eight_bytes c.args.row) in
+    ap₂ (λ (ys zs : List ℕ). take at out ++ (ys ++ zs)) bytes (Post-is at (at + 8) out (omega arith))
+    ∙ put_text at (at + 8) (in_bytes 8 c.args.row) out (omega arith) (omega (arith, length_in_bytes 8 c.args.row))

@@ -1,5 +1,5 @@
--- `runfile::write::write_row` meets its contract: a slice of fewer than 8 bytes has no room wherever the row goes, and
--- otherwise the place is held against what is left before 8 bytes, so that no sum can be too large. Assumes nothing.
+-- A slice of fewer than 8 bytes has no room wherever the row goes, and otherwise the place is held against what is
+-- left before 8 bytes, so that no sum can be too large. Assumes nothing.
 use mathlib.Core.Path.{◌≡◌, refl, sym, ◌∙◌}
 use Prim.Native.Nat.{ℕ, ◌+◌, ◌≤◌, ◌<◌}
 use native.Mathlib.Omega.{arith}
@@ -8,7 +8,11 @@ use borrow.Author.Tests.{lt-ltb, le-ltb}
 use Rattle.runfile.specs.Write.{row_refusal, row_writes}
 use Rattle.runfile.proofs.write.write_row.Reads as Reads
 use Rattle.runfile.proofs.write.write_row.Goals as goal
-use Rattle.runfile.proofs.write.write_row.Goals.{Else-out-at}
+use Rattle.runfile.proofs.write.write_row.Goals.{
+  Else-out-at,
+  then-out-lt8-via-then-out-lt8,
+  then-out-lt8-via-else-out-lt8+then-out-at,
+}
 
 -- the slice has no room, and it has
 short : (at room : ℕ) → room < at + 8 → 10 ≡ row_refusal at room
@@ -26,19 +30,17 @@ only_one κs a r s x y p q = (p.0 ∙ sym q.0, p.1 ∙ sym q.1)
 pub returns-then-out-lt8 : goal.returns-then-out-lt8
 unfolding row_writes
 returns-then-out-lt8 c =
-    let a = c.args in
-    let less : length a.out.now < a.at + 8 = omega (arith, c.if-out-lt8.true) in
-    record { value = short _ _ less; out_after = rw (lt-ltb (length a.out.now) (a.at + 8) less) refl }
-
-pub returns-then-out-at : goal.returns-then-out-at
-unfolding row_writes
-returns-then-out-at c =
-    let a = c.args in
-    let less : length a.out.now < a.at + 8 = omega (arith, c.if-out-at.true) in
-    record { value = short _ _ less; out_after = rw (lt-ltb (length a.out.now) (a.at + 8) less) refl }
-
-pub put_row-requires : goal.put_row-requires
-put_row-requires c = room_of (goal.at.put_row-requires c).Else-out-at
+    let at = c.args.at in
+    let out = c.args.out.now in
+    let less : length out < at + 8 =
+    elim c.then-out-lt8.branch [
+      | then-out-lt8-via-then-out-lt8 w ↦ omega arith
+      | then-out-lt8-via-else-out-lt8+then-out-at w ↦ omega arith
+    ] in
+    record {
+      value = c.from.ensures ∙ short at (length out) less;
+      out_after = rw (lt-ltb (length out) (at + 8) less) refl;
+    }
 
 pub returns : goal.returns
 unfolding row_refusal row_writes

@@ -1,10 +1,10 @@
--- `runfile::write::write_table` meets its contract: the refusal is made first, and a table that is not refused has its
--- exact number of rows and room in the slice; its rows are written from the first place on. Assumes nothing.
+-- A table that is not refused has its exact number of rows and room in the slice. Assumes nothing.
 use mathlib.Core.Path.{◌≡◌, sym, ap, ◌∙◌}
 use mathlib.Core.List.{[]}
 use Prim.Native.Nat.{ℕ, ◌*◌}
 use native.Mathlib.Omega.{arith}
 use lib.ListN.{length}
+use Rattle.sizes.proofs.Numbers.{named}
 use Rattle.sizes.specs.Sizes.{table_rows}
 use Rattle.runfile.specs.File.{rows_in_bytes}
 use Rattle.runfile.specs.Write.{table_file, at_front, write_table_refusal, write_table_reply, write_table_writes}
@@ -19,13 +19,13 @@ use Rattle.runfile.proofs.Written.{
 }
 use Rattle.runfile.proofs.write.write_table.Reads as Reads
 use Rattle.runfile.proofs.write.write_table.Goals as goal
-use Rattle.runfile.proofs.write.write_table.Goals.{Else-refusal-ne0}
+use Rattle.runfile.proofs.write.write_table.Goals.{In_default}
 
-none : (c : Else-refusal-ne0) → write_table_refusal c.args.n c.args.rows.now (length c.args.out.now) ≡ 0
-none c = sym c.write_table_refusal-refusal.ensures ∙ c.if-refusal-ne0.false
+none : (c : In_default) → write_table_refusal c.args.n c.args.rows.now (length c.args.out.now) ≡ 0
+none c = sym c.in_default.ensures
 
 -- what the table passed
-fits : (c : Else-refusal-ne0) → TableWritten c.args.n c.args.rows.now (length c.args.out.now)
+fits : (c : In_default) → TableWritten c.args.n c.args.rows.now (length c.args.out.now)
 fits c = write_table_accepted _ _ _ (none c)
 
 -- the contract admits one reply, and one last contents of the slice
@@ -33,27 +33,28 @@ pub only_one : (κs : _) (a : _) (r s : _) (x y : _) → Reads.Post κs a r x �
     (r ≡ s) × (x.1.1.0.now ≡ y.1.1.0.now)
 only_one κs a r s x y p q = (p.0 ∙ sym q.0, p.1 ∙ sym q.1)
 
-pub returns-then-refusal-ne0 : goal.returns-then-refusal-ne0
+pub returns-in-Err : goal.returns-in-Err
 unfolding write_table_reply write_table_writes
-returns-then-refusal-ne0 c =
-    let e = c.write_table_refusal-refusal.ensures in
+returns-in-Err c =
+    let e = c.in-Err.ensures in
     let a = c.args in
     let some : write_table_refusal a.n a.rows.now (length a.out.now) ≡ 0 → ⊥ =
-    λ z. c.if-refusal-ne0.true (e ∙ z) in
+    λ z. named _ (e ∙ z) in
     record {
-      value = ap (λ (k : ℕ). record { refusal = k; size = 0 }) e ∙ sym (wrote_refused _ _ [] [] some);
+      value = ap (λ (k : ℕ). record { refusal = k; size = 0 }) (c.from.ensures ∙ e)
+          ∙ sym (wrote_refused _ _ [] [] some);
       out_after = sym (wrote_leaves _ 0 _ _ some);
     }
 
 pub put_rows-requires : goal.put_rows-requires
 put_rows-requires c =
-    let f = fits (goal.at.put_rows-requires c).Else-refusal-ne0 in
+    let f = fits (goal.at.put_rows-requires c).In_default in
     omega (arith, f.exact, f.enough)
 
 pub returns : goal.returns
 unfolding write_table_reply write_table_writes table_file
 returns c =
-    let l = (goal.at.returns c).Else-refusal-ne0 in
+    let l = (goal.at.returns c).In_default in
     let a = l.args in
     let size : 8 * length a.rows.now ≡ 8 * table_rows a.n = omega (arith, (fits l).exact) in
     record {
