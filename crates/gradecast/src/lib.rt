@@ -24,6 +24,7 @@ pub struct Cast {
 }
 
 // What a call sets for all boxes: how many there are, how many may be faulty, and which are.
+// Stays: three fields, as in the other public structs that have them, since docs/SCOPE.md names each.
 #[derive(Clone, Copy)]
 pub struct Settings {
     pub n: usize,

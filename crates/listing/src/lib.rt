@@ -88,7 +88,7 @@ impl Lines {
     }
 
     // Puts the line `run`.
-    // Stays: three numbers, and no `&Run` as in `put_box`, which does not tell the proof that they fit their types.
+    // Stays: three numbers. With `&Run`, as in `put_box`, the proof that the line has room did not close.
     fn put_run(&mut self, n: u8, t: u8, faulty: u16)
         requires { length self.old + 18 ≤ 2449 }
         ensures text { self.new ≡ self.old ++ run_line n t faulty }
@@ -149,7 +149,7 @@ impl Lines {
 }
 
 // Takes the rows of one sender from the bytes of a table, those of each step, each to its place.
-// Stays: n beside the bytes, here and in `take_faulty`, since a struct of both would be made for that one call.
+// Stays: n beside the bytes, here and in `take_faulty`, since a struct of both would be made anew for each table.
 fn take_sender(n: usize, sender: usize, bytes: &[u8], table: &mut [u64; 4563])
     requires { (n ≤ 13) × (sender < n) × (length bytes.now ≡ table_bytes n) }
     ensures { Taken n bytes.now table.new sender ×

@@ -152,6 +152,7 @@ fn is_comment(line: &[u8]) -> bool
 }
 
 // Is the line empty, but for spaces and a carriage return at the very end?
+// Stays: the carriage return is cut here as `lines` cuts it; what both would call would be public in lines.
 fn is_empty(line: &[u8]) -> bool
     ensures { result ≡ is_empty line.now }
 {
@@ -164,6 +165,7 @@ fn file_bytes(n: u8, t: u8) -> Result<usize, Refusal>
     ensures refused { refusal_in result ≡ size_refusal n t }
     ensures bytes { IfOk result (λ size. size ≡ file_bytes n t) }
 {
+    // Stays: `as`, here and below, since `from` is no plainer for a length and the rest are proved to fit.
     sizes::check_size(n as usize, t)?;
     Ok(listing::table_begins(n, t + 1))
 }

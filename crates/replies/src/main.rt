@@ -80,6 +80,7 @@ fn next_reasons() -> Option<Reasons> {
     let mut iterations = [0u8; 169];
     let mut confidences = [0u8; 169];
     let mut supports = [0u8; 169];
+    // Stays: an index, here and in reason_numbers, since three arrays are gone through together.
     for p in 0..169 {
         iterations[p] = bytes[3 * p];
         confidences[p] = bytes[3 * p + 1];

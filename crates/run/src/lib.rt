@@ -127,7 +127,7 @@ struct Joining {
 
 // Refusals 4, 5 and 6, which a start, an iteration and a question share.
 // Stays: n, t and the faulty set one by one, as the public start takes them; the functions after a start have a state.
-// And `as` here and below, which leaves the number as it is in each goal, where `usize::from` is a call with a clause.
+// And `as` for indices and lengths, which leaves the number as it is in each goal, where `usize::from` is a call.
 fn check_setting(n: u8, t: u8, faulty: u16) -> Result<(), Refusal>
     ensures { refusal_in result ≡ setting_refusal n t faulty }
 {
@@ -555,7 +555,7 @@ impl Run {
             return Why {
                 refusal: u8::from(refusal),
                 run: self,
-                // Stays: zeros written out, in the one place that has them; a constant would be used once.
+                // Stays: zeros written out, in the one place of this crate that has them.
                 reason: Reason {
                     iteration: 0,
                     confidence: 0,

@@ -153,6 +153,7 @@ fn check_heading(bytes: &[u8], room: usize) -> Result<Heading, Refusal>
     if sizes::is_stray(n, faulty) {
         return Err(Refusal::Stray);
     }
+    // Stays: `as`, here and below, since `from` is no plainer for a length or a place.
     if bytes.len() < 9 + 8 * (n as usize) {
         return Err(Refusal::WrongBytes);
     }

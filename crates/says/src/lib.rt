@@ -100,6 +100,7 @@ fn say_at(n: u8, t: u8, numbers: &[u64]) -> Option<usize>
 pub fn place_of(n: u8, t: u8, numbers: &[u64]) -> Place
     ensures { result ≡ place_reply n t numbers.now }
 {
+    // Stays: zeros written out, here and below: each reply shows what a refused call gives.
     if let Err(refusal) = sizes::check_size(n as usize, t) {
         return Place {
             refusal: u8::from(refusal),

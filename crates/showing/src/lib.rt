@@ -111,6 +111,7 @@ impl<'a> File<'a> {
     }
 
     // Puts the line of a place of table m at the front of a slice, nothing where the place holds 0.
+    // Stays: that the file has table m is a clause here and below; a struct of both would be made for each table.
     fn put_place(&self, m: u8, place: usize, row: u64, out: &mut [u8]) -> usize
         requires place { (m < due self.now) × (place < table_rows (heading self.now).n) }
         requires room { 40 ≤ length out.old }

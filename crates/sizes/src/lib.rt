@@ -23,6 +23,7 @@ pub fn largest_t(n: u8) -> u8
     ensures { result ≡ by_n largest_t n }
 {
     match n {
+        // Stays: `as`, here and below, since `from` is no plainer for an index or a length.
         1..=13 => LARGEST_T[(n - 1) as usize],
         _ => 0,
     }
@@ -86,6 +87,7 @@ pub fn is_sound_zero(faulty: u16, k: usize, row: u64) -> bool
 }
 
 // Refusal 9: is some sound box's row 0?
+// Stays: a loop, since its test is a call, which the proof of a chain does not see through (tally's `has_above2`).
 pub fn has_sound_zero(faulty: u16, rows: &[u64]) -> bool
     ensures { result ≡ sound_zero (length rows.now) faulty rows.now }
 {

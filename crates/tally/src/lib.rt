@@ -62,6 +62,7 @@ fn is_carried(rows: &[u64], t: u8, v: u64) -> bool
     requires { t ≤ length rows.now }
     ensures { result ≡ carried t rows.now v }
 {
+    // Stays: `as`, here and below, since `from` is no plainer for a length and a support is proved to fit.
     v != 0 && rows.len() - (t as usize) <= places_of(rows, v)
 }
 
@@ -72,6 +73,7 @@ fn vote_of(rows: &[u64], t: u8) -> u64
     requires { 3 * t < length rows.now }
     ensures { result ≡ vote_of t rows.now }
 {
+    // Stays: a loop, as in has_above2, since the test is a call.
     let first = t as usize + 1;
     for row in &rows[..first] {
         if is_carried(rows, t, *row) {
@@ -203,6 +205,7 @@ fn counted_row(row: u64, confidence: u8) -> u64
 }
 
 // The rows of the leaders with confidence 1 or 2.
+// Stays: an index for the second slice, here and in firm_for; over `zip` the loop's proof was no plainer.
 fn counted_rows(rows: &[u64], confidences: &[u8]) -> [u64; 13]
     requires { (length rows.now ≤ 13) × (length rows.now ≡ length confidences.now) }
     ensures { (length result ≡ 13) ×
@@ -226,6 +229,7 @@ fn is_above2(confidence: u8) -> bool
 }
 
 // Is some confidence above 2?
+// Stays: a loop. A chain of `any` was tried: the proof did not see through a test that is a call.
 fn has_above2(confidences: &[u8]) -> bool
     ensures { result ≡ above2 confidences.now }
 {
@@ -284,6 +288,7 @@ fn firm_for(rows: &[u64], confidences: &[u8], chosen: u64) -> usize
 pub fn choose(rows: &[u64], confidences: &[u8]) -> Chosen
     ensures { result ≡ choice_reply rows.now confidences.now }
 {
+    // Stays: zeros written out, as in a vote and a grade: each reply shows what a refused call gives.
     if let Err(refusal) = check_choice(rows, confidences) {
         return Chosen {
             refusal: u8::from(refusal),

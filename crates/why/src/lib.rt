@@ -155,7 +155,8 @@ impl Line {
 }
 
 // Runs a file to its end and asks its last state. A file that is refused is not asked.
-// Stays: a `Why` and no Result, since `why_of`, by which `answer_reply` says what is told, is one.
+// Stays: a `Why` and no Result, since `why_of`, by which `answer_reply` says what is told, is one, with its zeros
+// written out; and the two box numbers one by one, as the public `answer` takes them.
 fn ask(bytes: &[u8], asked: u64, listed: u64) -> Why
     ensures { result ≡ why_of bytes.now asked listed }
 {
