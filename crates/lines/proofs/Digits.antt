@@ -5,19 +5,18 @@ use mathlib.Core.Bool.{Bool, true, false, ◌&&◌}
 use mathlib.Core.List.{List, [], ◌∷◌}
 use Prim.Native.Nat.{ℕ, ◌+◌, ◌-◌, ◌*◌, ◌^◌, ◌≤◌, ◌<◌}
 use native.Mathlib.Nat.{le_refl}
-use native.Mathlib.Numerals.{add-one}
 use native.Mathlib.Omega.{arith}
 use lib.Dec.{ltb}
-use lib.ListN.{length, get_or, drop, drop_of_length-le}
-use lib.Seq.{drop-cons}
+use lib.ListN.{length, get_or, drop}
 use borrow.Author.Tests.{lt-ltb, le-ltb, ltb-true, ltb-false}
 use Rattle.counting.proofs.Bools.{both, and_right, and_false_right, not_both}
 use Rattle.std.proofs.Common.{Option, Some, None, MatchOption, inl, inr}
 use Rattle.std.specs.Char.{IsAsciiDigit, IsNotAsciiDigit}
 use Rattle.std.specs.Option.{SomeIff}
 use Rattle.lines.specs.Line.{read_on}
-use Rattle.lines.specs.Read.{is_digit, is_digits, is_small}
+use Rattle.lines.specs.Read.{piece, is_digit, is_digits, is_small}
 use Rattle.lines.specs.Inside.{with_digit, takes}
+use Rattle.lines.proofs.Pieces.{piece_goes}
 
 -- digits behind a number already read: they are digits, and the number stays below 2⁶⁴
 unfoldable pub fits : ℕ → List ℕ → Bool
@@ -78,26 +77,26 @@ fits_turn before byte text = go (is_digit byte) (ltb (with_digit before byte) (2
           read_grows (with_digit before byte) text,
         )))
 
--- a loop that reads digits has come to place i, with this value
+-- a loop that reads the digits at the front of a text has come to place i, with this value
 pub record ReadTo (text : List ℕ) (i value : ℕ) : Type 0 where
   pub low : value < 2 ^ 64
-  pub good : is_small text ≡ fits value (drop i text)
-  pub read : read_on 0 text ≡ read_on value (drop i text)
+  pub good : is_small (piece text) ≡ fits value (piece (drop i text))
+  pub read : read_on 0 (piece text) ≡ read_on value (piece (drop i text))
+  pub long : length (piece text) ≡ i + length (piece (drop i text))
 
 pub read_begins : (text : List ℕ) → ReadTo text 0 0
-read_begins text = record { low = omega arith; good = small_fits text; read = refl }
+read_begins text = record { low = omega arith; good = small_fits (piece text); read = refl; long = omega arith }
 
 module _ {text : List ℕ} {i value : ℕ} (r : ReadTo text i value) where
-  module _ (l : i < length text) where
-    -- the byte there is the next
-    here : drop i text ≡ get_or text i 0 ∷ drop (i + 1) text
-    here = rw add-one (drop-cons text i 0 l)
+  module _ (l : i < length text) (d : get_or text i 0 ≡ 32 → ⊥) where
+    -- the byte there is the next of the piece
+    turn : is_small (piece text) ≡
+        (takes value (get_or text i 0) && fits (with_digit value (get_or text i 0)) (piece (drop (i + 1) text)))
+    turn =
+        r.good ∙ ap (fits value) (piece_goes text i l d)
+        ∙ fits_turn value (get_or text i 0) (piece (drop (i + 1) text))
 
-    turn : is_small text ≡
-        (takes value (get_or text i 0) && fits (with_digit value (get_or text i 0)) (drop (i + 1) text))
-    turn = r.good ∙ ap (fits value) here ∙ fits_turn value (get_or text i 0) (drop (i + 1) text)
-
-    pub read_bad : takes value (get_or text i 0) ≡ false → is_small text ≡ false
+    pub read_bad : takes value (get_or text i 0) ≡ false → is_small (piece text) ≡ false
     read_bad f = turn ∙ not_both _ f
 
     pub read_turn : takes value (get_or text i 0) ≡ true → ReadTo text (i + 1) (with_digit value (get_or text i 0))
@@ -105,18 +104,21 @@ module _ {text : List ℕ} {i value : ℕ} (r : ReadTo text i value) where
     read_turn t =
         record {
           low = ltb-true _ _ (and_right (is_digit (get_or text i 0)) _ t);
-          good = turn ∙ ap (λ (b : Bool). b && fits (with_digit value (get_or text i 0)) (drop (i + 1) text)) t;
-          read = r.read ∙ ap (read_on value) here;
+          good =
+              turn
+              ∙ ap (λ (b : Bool). b && fits (with_digit value (get_or text i 0)) (piece (drop (i + 1) text))) t;
+          read = r.read ∙ ap (read_on value) (piece_goes text i l d);
+          long = r.long ∙ omega (arith, ap length (piece_goes text i l d));
         }
 
-  -- all are read
-  module _ (h : length text ≤ i) where
-    none : drop i text ≡ []
-    none = drop_of_length-le text {i = i} h
+  -- the piece is at its end
+  module _ (e : piece (drop i text) ≡ []) where
+    pub read_small : is_small (piece text) ≡ true
+    read_small = r.good ∙ ap (fits value) e ∙ fits_none value r.low
 
-    pub read_small : is_small text ≡ true
-    read_small = r.good ∙ ap (fits value) none ∙ fits_none value r.low
+    pub read_long : i ≡ length (piece text)
+    read_long = omega (arith, r.long, ap length e)
 
-    pub read_value : value ≡ read_on 0 text
+    pub read_value : value ≡ read_on 0 (piece text)
     unfolding read_on
-    read_value = sym (r.read ∙ ap (read_on value) none)
+    read_value = sym (r.read ∙ ap (read_on value) e)

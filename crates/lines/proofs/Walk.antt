@@ -1,21 +1,13 @@
 -- How far a loop over the parts of a line has come: each part that is not empty is a number, and adds its value to
 -- those passed. Assumes nothing.
-use mathlib.Core.Path.{◌≡◌, refl, sym, ap, ap₂, subst, ◌∙◌}
-use mathlib.Core.Bool.{Bool, true, false, cond, ◌&&◌}
+use mathlib.Core.Path.{◌≡◌, refl, sym, ap, subst, ◌∙◌}
+use mathlib.Core.Bool.{Bool, true, false, ◌&&◌}
 use mathlib.Core.List.{List, [], ◌∷◌}
 use Prim.Native.Nat.{ℕ, suc, ◌+◌, ◌-◌, ◌≤◌, ◌<◌}
 use native.Mathlib.Numerals.{add-one}
 use native.Mathlib.Omega.{arith}
-use lib.ListN.{length, get_or, take, drop, length-drop, drop_of_length-le}
+use lib.ListN.{length, get_or, take, drop, length-drop}
 use lib.Seq.{drop-cons}
-use lib.Dec.{eqb}
-use denote.Param.Members.{Mut}
-use denote.Ref.{Bor}
-use Rattle.std.specs.Fn.{CalledAt}
-use Rattle.std.specs.List.{slice_split, onto_first}
-use Rattle.std.specs.Slice.Iter.{split_rest, split_done, split_callee, split_steps}
-use Rattle.std.proofs.lemmas.Iterator.{YieldsList}
-use Rattle.std.proofs.lemmas.Iterator.Splits.{YieldsList-from_slice_split}
 use Rattle.lines.proofs.Placed.{rest_whole}
 use borrow.Author.Tests.{lt-ltb}
 use Rattle.counting.proofs.Bools.{and_left, not_both}
@@ -33,7 +25,7 @@ use Rattle.lines.specs.Read.{
   values,
   numbers_in,
 }
-use Rattle.lines.proofs.Pieces.{piece_past, behind_past}
+use Rattle.lines.proofs.Pieces.{piece_past, behind_past, behind_turn}
 
 -- whether the texts that are not empty are numbers, and what they stand for, by the first of the texts
 are_turn : (text : List ℕ) (texts : List (List ℕ)) →
@@ -64,29 +56,6 @@ drop_next xs ys k x e =
     let at : get_or xs k 0 ∷ drop (suc k) xs ≡ x ∷ ys = sym (drop-cons xs k 0 l) ∙ e in
     (l, (ap (λ (zs : List ℕ). get_or zs 0 0) at, ap (λ (n : ℕ). drop n xs) (add-one k) ∙ ap (drop 1) at))
 
--- a line is split at its spaces
-pub split_is : (text : List ℕ) → slice_split (λ byte. eqb byte 32) text ≡ piece text ∷ behind text
-unfolding piece behind
-split_is [] = refl
-split_is (byte ∷ text) = go (eqb byte 32) (split_is text)
-  where
-    go : (b : Bool) → slice_split (λ byte. eqb byte 32) text ≡ piece text ∷ behind text →
-        cond b ([] ∷ slice_split (λ byte. eqb byte 32) text) (onto_first byte (slice_split (λ byte. eqb byte 32) text))
-        ≡ cond b [] (byte ∷ piece text) ∷ cond b (piece text ∷ behind text) (behind text)
-    go true e = ap (λ (texts : List (List ℕ)). [] ∷ texts) e
-    go false e = ap (onto_first byte) e
-
--- so is the part of it behind its word
-abbrev pub parts : List ℕ → ℕ → List (List ℕ)
-parts text word = slice_split (λ byte. eqb byte 32) (drop word text)
-
-pub parts_are : (text : List ℕ) (word : ℕ) → word ≡ length (word_in text) → parts text word ≡ [] ∷ behind text
-unfolding word_in
-parts_are text word e =
-    ap (parts text) e
-    ∙ split_is (drop (length (piece text)) text)
-    ∙ ap₂ (λ (first : List ℕ) (texts : List (List ℕ)). first ∷ texts) (piece_past text) (behind_past text)
-
 -- a loop that goes from part to part has passed so many numbers; the parts that are left decide whether all are
 -- numbers
 pub record Reached (text : List ℕ) (texts : List (List ℕ)) (count : ℕ) : Type 0 where
@@ -94,21 +63,50 @@ pub record Reached (text : List ℕ) (texts : List (List ℕ)) (count : ℕ) : T
   pub left : drop count (numbers_in text) ≡ values (non_empty texts)
   pub good : are_numbers (said_in text) ≡ are_numbers (non_empty texts)
 
-pub walk_begins : (text : List ℕ) (word : ℕ) → word ≡ length (word_in text) → Reached text (parts text word) 0
-unfolding said_in numbers_in non_empty
-walk_begins text word e =
-    let same : non_empty (parts text word) ≡ non_empty (behind text) = ap non_empty (parts_are text word e) in
-    record { some = omega arith; left = ap values (sym same); good = ap are_numbers (sym same) }
+-- what is left of the text begins with a space or is empty, and of the parts behind its spaces none is passed
+pub record Left (text left : List ℕ) (count : ℕ) : Type 0 where
+  pub few : count + length left ≤ length text
+  pub space : piece left ≡ []
+  pub reached : Reached text (behind left) count
 
--- the next part of those that are left
-pub walk_next : (text : List ℕ) (texts : List (List ℕ)) (n count : ℕ) (part : List ℕ) →
-    (n < length texts) × (part ≡ get_or texts n part) → Reached text (drop n texts) count →
-    Reached text (part ∷ drop (n + 1) texts) count
-walk_next text texts n count part (l, same) r =
-    let here : drop n texts ≡ part ∷ drop (n + 1) texts =
-    drop-cons texts n part l
-    ∙ ap₂ (λ (x : List ℕ) (k : ℕ). x ∷ drop k texts) (sym same) (sym (add-one n)) in
-    subst (λ (ts : List (List ℕ)). Reached text ts count) here r
+pub walk_begins : (text : List ℕ) (word : ℕ) → word ≡ length (word_in text) → Left text (drop word text) 0
+unfolding word_in said_in numbers_in
+walk_begins text word e =
+    let past : behind (drop word text) ≡ behind text =
+    ap (λ (k : ℕ). behind (drop k text)) e ∙ behind_past text in
+    record {
+      few = omega (arith, length-drop word text);
+      space = ap (λ (k : ℕ). piece (drop k text)) e ∙ piece_past text;
+      reached = record {
+        some = omega arith;
+        left = ap (λ (texts : List (List ℕ)). values (non_empty texts)) (sym past);
+        good = ap (λ (texts : List (List ℕ)). are_numbers (non_empty texts)) (sym past);
+      };
+    }
+
+-- what is cut off a text from a place on, as a slice's part has it
+abbrev pub rest : List ℕ → ℕ → List ℕ
+rest text at = take (length text - at) (drop at text)
+
+module _ {text left : List ℕ} {count : ℕ} (h : Left text left count) (l : 1 ≤ length left) where
+  -- behind the space stands the next part
+  pub walk_next : Reached text (piece (rest left 1) ∷ behind (rest left 1)) count
+  walk_next =
+      subst (λ (after : List ℕ). Reached text (piece after ∷ behind after) count) (sym (rest_whole left 1))
+      (subst (λ (texts : List (List ℕ)). Reached text texts count) (behind_turn left 0 l h.space) h.reached)
+
+  -- and behind that part begins what is left then
+  pub walk_left : (next size : ℕ) → next ≤ count + 1 → size ≡ length (piece (rest left 1)) →
+      Reached text (behind (rest left 1)) next → Left text (rest (rest left 1) size) next
+  walk_left next size few e r =
+      let after = rest left 1 in
+      let whole = ap length (rest_whole left 1) in
+      subst (λ (then : List ℕ). Left text then next) (sym (rest_whole after size)) (record {
+        few = omega (arith, few, h.few, l, whole, length-drop 1 left, length-drop size after);
+        space = ap (λ (k : ℕ). piece (drop k after)) e ∙ piece_past after;
+        reached = subst (λ (texts : List (List ℕ)). Reached text texts next)
+            (sym (ap (λ (k : ℕ). behind (drop k after)) e ∙ behind_past after)) r;
+      })
 
 module _ {text part : List ℕ} {texts : List (List ℕ)} {count : ℕ} (r : Reached text (part ∷ texts) count) where
   walk_good : are_numbers (said_in text) ≡ (is_small part && are_numbers (non_empty texts))
@@ -148,26 +146,19 @@ module _ {text part : List ℕ} {texts : List (List ℕ)} {count : ℕ} (r : Rea
       walk_turn = record { some = omega (arith, walk_one); left = passed.1.1; good = walk_still }
 
 -- at the end all are passed, and all are numbers
-module _ {text : List ℕ} {count : ℕ} (r : Reached text [] count) where
+behind_none : (left : List ℕ) → length left < 1 → behind left ≡ []
+unfolding behind
+behind_none [] l = refl
+behind_none (byte ∷ left) l = absurd (omega (arith, l))
+
+module _ {text left : List ℕ} {count : ℕ} (h : Left text left count) (l : length left < 1) where
+  none : Reached text [] count
+  none = subst (λ (texts : List (List ℕ)). Reached text texts count) (behind_none left l) h.reached
+
   pub walk_all : count ≡ length (numbers_in text)
   unfolding non_empty values
-  walk_all = omega (arith, r.some, length-drop count (numbers_in text), ap length r.left)
+  walk_all = omega (arith, none.some, length-drop count (numbers_in text), ap length none.left)
 
   pub walk_ends : are_numbers (said_in text) ≡ true
   unfolding non_empty are_numbers
-  walk_ends = r.good
-
-pub walk_last : (text : List ℕ) (texts : List (List ℕ)) (n count : ℕ) → n ≡ length texts →
-    Reached text (drop n texts) count → Reached text [] count
-walk_last text texts n count e r =
-    subst (λ (ts : List (List ℕ)). Reached text ts count) (drop_of_length-le texts {i = n} (omega arith)) r
-
--- the iterator over a line behind its word gives these parts
-pub split_gives : {F : Type 0} {s t : _} (g : Mut F (Bor ℕ × Unit {0}) Bool) {f : F} (line : List ℕ) (word : ℕ) →
-    t ≡ s → split_rest s ≡ take (length line - word) (drop word line) → split_done s ≡ false → split_callee s ≡ f →
-    ((x : ℕ) (b : Bool) (q : F) → CalledAt g f x b q → (q ≡ f) × (b ≡ eqb x 32)) →
-    YieldsList (split_steps g) (λ x. x.now) t (parts line word)
-split_gives g line word same rest done closure tests =
-    YieldsList-from_slice_split g (λ byte. eqb byte 32) (drop word line)
-    (ap split_rest same ∙ rest ∙ rest_whole line word) (ap split_done same ∙ done) (ap split_callee same ∙ closure)
-    tests
+  walk_ends = none.good

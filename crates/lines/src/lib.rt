@@ -207,19 +207,37 @@ fn add_digit(value: u64, byte: u8) -> Option<u64>
     value.checked_mul(10)?.checked_add(u64::from(byte - b'0'))
 }
 
-// The number that the digits stand for, where it is below 2⁶⁴. None at all are read as 0.
-fn read_digits(text: &[u8]) -> Option<u64>
-    ensures { MatchOption result (is_small text.now ≡ false)
-        (λ value. (is_small text.now ≡ true) × (value ≡ read_on 0 text.now)) }
-{
-    let mut value: u64 = 0;
-    for byte in text {
-        value = add_digit(value, *byte)?;
-    }
-    Some(value)
+// What stands at the front of a text, up to the first space or the end: how many bytes, and the value of these digits.
+#[derive(Clone, Copy)]
+struct Piece {
+    size: usize,
+    value: u64,
 }
 
-// How many numbers a line has, where it is a word and numbers. No bytes stand between the word and the first space.
+// Reads the digits at the front of a text, where the number that they stand for is below 2⁶⁴. None at all are read as
+// 0. The first byte that is wrong ends the walk, however long the text is: so there is no `split` into parts, which
+// looks for the end of a part first.
+fn read_piece(text: &[u8]) -> Option<Piece>
+    ensures { MatchOption result (is_small (piece text.now) ≡ false)
+        (λ found. (is_small (piece text.now) ≡ true) × (found.size ≡ length (piece text.now)) ×
+        (found.value ≡ read_on 0 (piece text.now))) }
+{
+    let mut value: u64 = 0;
+    for (size, byte) in text.iter().enumerate() {
+        if *byte == b' ' {
+            return Some(Piece { size, value });
+        }
+        value = add_digit(value, *byte)?;
+    }
+    Some(Piece {
+        size: text.len(),
+        value,
+    })
+}
+
+// How many numbers a line has, where it is a word and numbers. What is left of the line begins with a space, or is
+// empty.
+// Stays: a `while`, here and below, which counts no index: each turn takes a part off what is left.
 fn find_numbers(line: &[u8], word: usize) -> Option<usize>
     requires { word ≡ length (word_in line.now) }
     ensures { MatchOption result (is_line line.now ≡ false)
@@ -229,11 +247,13 @@ fn find_numbers(line: &[u8], word: usize) -> Option<usize>
         return None;
     }
     let mut count: usize = 0;
-    for part in line[word..].split(|byte| *byte == b' ') {
-        read_digits(part)?;
-        if !part.is_empty() {
+    let mut left = &line[word..];
+    while let [_space, text @ ..] = left {
+        let part = read_piece(text)?;
+        if part.size != 0 {
             count += 1;
         }
+        left = &text[part.size..];
     }
     Some(count)
 }
@@ -248,14 +268,16 @@ fn take_numbers(line: &[u8], word: usize, numbers: &mut [u64])
     ensures { numbers.new ≡ placed numbers.old 0 (numbers_in line.now) }
 {
     let mut count: usize = 0;
-    for part in line[word..].split(|byte| *byte == b' ') {
-        let Some(value) = read_digits(part) else {
+    let mut left = &line[word..];
+    while let [_space, text @ ..] = left {
+        let Some(part) = read_piece(text) else {
             unreachable!()
         };
-        if !part.is_empty() {
-            numbers[count] = value;
+        if part.size != 0 {
+            numbers[count] = part.value;
             count += 1;
         }
+        left = &text[part.size..];
     }
 }
 

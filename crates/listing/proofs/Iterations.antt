@@ -34,8 +34,8 @@ use Rattle.listing.specs.File.{
   due,
   goes_on,
 }
-use Rattle.listing.specs.Inside.{Underway, Advanced, Started, Ended}
-use Rattle.listing.specs.Listing.{passed, box_lines, iteration_lines, done_of, refused_later, ends_with}
+use Rattle.listing.specs.Inside.{Underway, Advanced, Started, Ended, with_parts}
+use Rattle.listing.specs.Listing.{passed, box_line, box_lines, iteration_lines, done_of, refused_later, ends_with}
 use Rattle.listing.proofs.Heading.{
   first_passed,
   none_refused,
@@ -242,3 +242,9 @@ module _ (bytes : List ℕ) (s : Run) (g : Going bytes s) where
 
     pub finished_state : s ≡ state_after bytes (done_of bytes)
     finished_state = g.is ∙ ap (state_after bytes) (sym finished_done)
+
+-- the lines of a state's boxes go by these parts alone
+pub lines_by : (s : Run) (k : ℕ) → box_lines (with_parts s.faulty s.done s.rows s.lists) k ≡ box_lines s k
+unfolding box_lines box_line with_parts
+lines_by s zero = refl
+lines_by s (suc k) = ap (λ (lines : List ℕ). lines ++ box_line s k) (lines_by s k)

@@ -3,7 +3,7 @@ use Rattle.std.specs.Prelude.{ℕ, ◌+◌, ◌≤◌, ◌<◌, ◌≡◌, ◌�
 use Rattle.counting.specs.Sets.{member}
 use Rattle.gradecast.specs.Steps.{place1, place2, place3}
 use Rattle.run.specs.declared.Run.{Run}
-use Rattle.run.specs.State.{iterate_reply}
+use Rattle.run.specs.State.{no_reasons, iterate_reply}
 use Rattle.runfile.specs.File.{table_row}
 use Rattle.lines.specs.Line.{placed}
 use Rattle.listing.specs.File.{table_begins, table_of, refused_table, heading, state_after, refused_start}
@@ -72,3 +72,17 @@ pub record Started (s : Run) (bytes : List ℕ) : Type 0 where
   pub same_n : s.n ≡ (heading bytes).n
   pub same_t : s.t ≡ (heading bytes).t
   pub behind : table_begins s.n 0 ≤ length bytes
+
+-- a state with these parts: the lines of a state's boxes go by nothing else
+unfoldable pub with_parts : ℕ → ℕ → List ℕ → List ℕ → Run
+with_parts faulty done rows lists =
+    record {
+      n = 0;
+      t = 0;
+      faulty = faulty;
+      done = done;
+      sent = 0;
+      rows = rows;
+      lists = lists;
+      reasons = no_reasons;
+    }

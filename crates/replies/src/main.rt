@@ -1,15 +1,19 @@
 // Answers requests of docs/REQUESTS.md: calls public functions of the library on any numbers and
 // any bytes, and prints every field of the reply and every place of what was lent. `text_replies`
 // does the same for those of texts. `inout::fill`, `inout::print_line` and `lines::copy` have no
-// requests of their own: all that is read and all that is printed goes through them. Nor have
-// `sizes::check_size`, `sizes::refusal_number` and `sizes::has_sound_zero`: the calls that take n,
-// t and rows go through them.
+// requests of their own: all that is read goes through the first, all that is printed through the
+// last, and the replies of half of the kinds through the second. Nor have `sizes::check_size`,
+// `sizes::refusal_number` and `sizes::has_sound_zero`: the calls that take n, t and rows go through
+// them.
 #![tactic(auto)]
 
-ghost use Rattle.std.specs.Prelude.{◌≡◌, ◌≤◌, length, IfSome};
+ghost use Rattle.std.specs.Prelude.{◌≡◌, ◌+◌, ◌*◌, ◌≤◌, length, IfSome};
 
 use gradecast::{Cast, Settings};
 use run::{Next, Reasons, Run};
+
+// How many bytes a state takes in the head of a request.
+const STATE: usize = 650;
 
 // Fills the bytes with those that come next. Here and below: None where the request is cut short
 // or asks for too much.
@@ -18,53 +22,8 @@ fn fill(bytes: &mut [u8]) -> Option<()> {
     (inout::fill(bytes, 0, size) == size).then_some(())
 }
 
-// The next N bytes.
-fn next_bytes<const N: usize>() -> Option<[u8; N]> {
-    let mut bytes = [0u8; N];
-    fill(&mut bytes)?;
-    Some(bytes)
-}
-
-// The number in the next byte.
-// Stays: a function for each width and no generic one, since a trait would have the same body for
-// each of them.
-fn next_u8() -> Option<u8> {
-    Some(u8::from_be_bytes(next_bytes()?))
-}
-
-// The number in the next two bytes. Here and below: most significant byte first.
-fn next_u16() -> Option<u16> {
-    Some(u16::from_be_bytes(next_bytes()?))
-}
-
-// The number in the next eight bytes.
-fn next_u64() -> Option<u64> {
-    Some(u64::from_be_bytes(next_bytes()?))
-}
-
-// The number in the next eight bytes, as a length or a place.
-fn next_usize() -> Option<usize> {
-    Some(usize::from_be_bytes(next_bytes()?))
-}
-
-// The length in the next two bytes: of a table or of the slice to lend.
-fn next_length() -> Option<usize>
-    ensures { IfSome result (λ length. length ≤ 5000) }
-{
-    let length = usize::from(next_u16()?);
-    (length <= 5000).then_some(length)
-}
-
-// The length in the next four bytes: of a run file.
-fn next_size() -> Option<usize>
-    ensures { IfSome result (λ size. size ≤ 200000) }
-{
-    let size = u32::from_be_bytes(next_bytes()?) as usize;
-    (size <= 200000).then_some(size)
-}
-
-// Thirteen numbers, as the function reads them one by one: rows, or lists.
-fn next_thirteen<T: Copy + Default, F: Fn() -> Option<T>>(next: F) -> Option<[T; 13]>
+// Thirteen numbers, as the function gives them one by one: rows, or lists.
+fn thirteen<T: Copy + Default, F: FnMut() -> Option<T>>(mut next: F) -> Option<[T; 13]>
     requires { F.IsAlwaysCallable next }
 {
     let mut numbers = [T::default(); 13];
@@ -74,37 +33,91 @@ fn next_thirteen<T: Copy + Default, F: Fn() -> Option<T>>(next: F) -> Option<[T;
     Some(numbers)
 }
 
-// The reasons: three bytes for each of the 169.
-fn next_reasons() -> Option<Reasons> {
-    let bytes = next_bytes::<507>()?;
-    let mut iterations = [0u8; 169];
-    let mut confidences = [0u8; 169];
-    let mut supports = [0u8; 169];
-    // Stays: an index, here and in reason_numbers, since three arrays are gone through together.
-    for p in 0..169 {
-        iterations[p] = bytes[3 * p];
-        confidences[p] = bytes[3 * p + 1];
-        supports[p] = bytes[3 * p + 2];
-    }
-    Some(Reasons {
-        iterations,
-        confidences,
-        supports,
-    })
+// The head of a request, which is read at once: the bytes whose numbers are still to be taken.
+#[derive(Drop)]
+struct Head<'a> {
+    left: &'a [u8],
 }
 
-// A state.
-fn next_state() -> Option<Run> {
-    Some(Run {
-        n: next_u8()?,
-        t: next_u8()?,
-        faulty: next_u16()?,
-        done: next_u8()?,
-        sent: next_u64()?,
-        rows: next_thirteen(next_u64)?,
-        lists: next_thirteen(next_u16)?,
-        reasons: next_reasons()?,
-    })
+impl Head<'_> {
+    // The next N bytes.
+    fn next_bytes<const N: usize>(&mut self) -> Option<[u8; N]> {
+        let (bytes, left) = self.left.split_first_chunk::<N>()?;
+        self.left = left;
+        Some(*bytes)
+    }
+
+    // The number in the next byte.
+    // Stays: a function for each width and no generic one, since a trait would have the same body
+    // for each of them.
+    fn next_u8(&mut self) -> Option<u8> {
+        Some(u8::from_be_bytes(self.next_bytes()?))
+    }
+
+    // The number in the next two bytes. Here and below: most significant byte first.
+    fn next_u16(&mut self) -> Option<u16> {
+        Some(u16::from_be_bytes(self.next_bytes()?))
+    }
+
+    // The number in the next eight bytes.
+    fn next_u64(&mut self) -> Option<u64> {
+        Some(u64::from_be_bytes(self.next_bytes()?))
+    }
+
+    // The number in the next eight bytes, as a length or a place.
+    fn next_usize(&mut self) -> Option<usize> {
+        Some(usize::from_be_bytes(self.next_bytes()?))
+    }
+
+    // The length in the next two bytes: of a table or of the slice to lend.
+    fn next_length(&mut self) -> Option<usize>
+        ensures { IfSome result (λ length. length ≤ 5000) }
+    {
+        let length = usize::from(self.next_u16()?);
+        (length <= 5000).then_some(length)
+    }
+
+    // The length in the next four bytes: of a run file.
+    fn next_size(&mut self) -> Option<usize>
+        ensures { IfSome result (λ size. size ≤ 200000) }
+    {
+        let size = u32::from_be_bytes(self.next_bytes()?) as usize;
+        (size <= 200000).then_some(size)
+    }
+
+    // The reasons: three bytes for each of the 169.
+    fn next_reasons(&mut self) -> Option<Reasons> {
+        let bytes = self.next_bytes::<507>()?;
+        let mut iterations = [0u8; 169];
+        let mut confidences = [0u8; 169];
+        let mut supports = [0u8; 169];
+        // Stays: an index, here and in reason_numbers, since three arrays are gone through
+        // together.
+        for p in 0..169 {
+            iterations[p] = bytes[3 * p];
+            confidences[p] = bytes[3 * p + 1];
+            supports[p] = bytes[3 * p + 2];
+        }
+        Some(Reasons {
+            iterations,
+            confidences,
+            supports,
+        })
+    }
+
+    // A state.
+    fn next_state(&mut self) -> Option<Run> {
+        Some(Run {
+            n: self.next_u8()?,
+            t: self.next_u8()?,
+            faulty: self.next_u16()?,
+            done: self.next_u8()?,
+            sent: self.next_u64()?,
+            rows: thirteen(|| self.next_u64())?,
+            lists: thirteen(|| self.next_u16())?,
+            reasons: self.next_reasons()?,
+        })
+    }
 }
 
 // What a lent place holds, the first of them 1: a row.
@@ -159,28 +172,35 @@ fn state_numbers(run: Run) -> [u64; 538] {
     numbers
 }
 
-// Prints the numbers of a reply, at most five, with the lent rows or the numbers of a state behind
-// them.
-fn print_rows(text: &mut [u8], word: &[u8], reply: &[u64], lent: &[u64])
-    requires { (length reply.now ≤ 5) × (length lent.now ≤ 5000) }
+// Puts the bytes into the first places, as numbers, and lends these.
+fn byte_numbers<'a>(places: &'a mut [u64], bytes: &[u8]) -> &'a [u64]
+    requires { length bytes.now ≤ length places.old }
 {
-    let mut numbers = [0u64; 5005];
-    let at = reply.len();
-    let end = at + lent.len();
-    numbers[..at].copy_from_slice(reply);
-    numbers[at..end].copy_from_slice(lent);
-    inout::print_line(text, word, &numbers[..end]);
+    let numbers = &mut places[..bytes.len()];
+    for (number, byte) in numbers.iter_mut().zip(bytes) {
+        *number = u64::from(*byte);
+    }
+    numbers
+}
+
+// Prints the numbers of a reply with the lent rows or the numbers of a state behind them. Here and
+// below: the second line begins where the newline of the first one stood, so that no array has to
+// hold the numbers of both.
+fn print_rows(text: &mut [u8], word: &[u8], reply: &[u64], lent: &[u64]) {
+    let front = lines::put_line(text, 0, word, reply).saturating_sub(1);
+    let end = lines::put_line(text, front, b"", lent);
+    io::write_all(inout::STANDARD_OUTPUT, text.get(..end).unwrap_or(&[]));
 }
 
 // Prints the numbers of a reply with the places of the lent bytes behind them.
-fn print_bytes(text: &mut [u8], word: &[u8], reply: &[u64], lent: &[u8])
-    requires { (length reply.now ≤ 5) × (length lent.now ≤ 5000) }
-{
-    let mut numbers = [0u64; 5000];
-    for (number, byte) in numbers.iter_mut().zip(lent) {
-        *number = u64::from(*byte);
+fn print_bytes(text: &mut [u8], word: &[u8], reply: &[u64], lent: &[u8]) {
+    let mut numbers = [0u64; 1000];
+    let mut end = lines::put_line(text, 0, word, reply);
+    for piece in lent.chunks(1000) {
+        let front = end.saturating_sub(1);
+        end = lines::put_line(text, front, b"", byte_numbers(&mut numbers, piece));
     }
-    print_rows(text, word, reply, &numbers[..lent.len()]);
+    io::write_all(inout::STANDARD_OUTPUT, text.get(..end).unwrap_or(&[]));
 }
 
 // Prints the refusal's number and the state.
@@ -215,23 +235,41 @@ struct Desk {
 }
 
 impl Desk {
-    // Reads so many rows to the front of the rows, by way of the bytes.
+    // Reads the head of a request, so many bytes, in one call. A call for each number would take
+    // longer than many an answer.
+    fn head(&mut self, size: usize) -> Option<Head<'_>>
+        requires { size ≤ 200000 }
+    {
+        let bytes = &mut self.bytes[..size];
+        fill(bytes)?;
+        Some(Head { left: bytes })
+    }
+
+    // Puts so many rows to the front of the rows. Their bytes begin at a place of the bytes.
     // Stays: an index, since it says where the row stands in both, the rows and the bytes.
+    fn put_rows(&mut self, from: usize, count: usize)
+        requires { (from + 8 * count ≤ 200000) × (count ≤ 5000) }
+    {
+        for k in 0..count {
+            let at = from + 8 * k;
+            self.rows[k] = u64::from_be_bytes(self.bytes[at..at + 8].try_into().unwrap());
+        }
+    }
+
+    // Reads so many rows to the front of the rows, by way of the bytes.
     fn take_rows(&mut self, count: usize) -> Option<()>
         requires { count ≤ 5000 }
     {
         fill(&mut self.bytes[..8 * count])?;
-        for k in 0..count {
-            let at = 8 * k;
-            self.rows[k] = u64::from_be_bytes(self.bytes[at..at + 8].try_into().unwrap());
-        }
+        self.put_rows(0, count);
         Some(())
     }
 
     // A vote.
     fn vote(&mut self) -> Option<()> {
-        let count = usize::from(next_u8()?);
-        let t = next_u8()?;
+        let mut head = self.head(2)?;
+        let count = usize::from(head.next_u8()?);
+        let t = head.next_u8()?;
         self.take_rows(count)?;
         let voted = tally::vote(&self.rows[..count], t);
         let reply = [u64::from(voted.refusal), voted.row];
@@ -241,8 +279,9 @@ impl Desk {
 
     // A grade.
     fn grade(&mut self) -> Option<()> {
-        let count = usize::from(next_u8()?);
-        let t = next_u8()?;
+        let mut head = self.head(2)?;
+        let count = usize::from(head.next_u8()?);
+        let t = head.next_u8()?;
         self.take_rows(count)?;
         let graded = tally::grade(&self.rows[..count], t);
         let reply = [
@@ -257,8 +296,9 @@ impl Desk {
 
     // A choice.
     fn choice(&mut self) -> Option<()> {
-        let count = usize::from(next_u8()?);
-        let size = usize::from(next_u8()?);
+        let mut head = self.head(2)?;
+        let count = usize::from(head.next_u8()?);
+        let size = usize::from(head.next_u8()?);
         self.take_rows(count)?;
         fill(&mut self.bytes[..size])?;
         let chosen = tally::choose(&self.rows[..count], &self.bytes[..size]);
@@ -269,10 +309,11 @@ impl Desk {
 
     // A start.
     fn start(&mut self) -> Option<()> {
-        let n = next_u8()?;
-        let t = next_u8()?;
-        let faulty = next_u16()?;
-        let count = usize::from(next_u8()?);
+        let mut head = self.head(5)?;
+        let n = head.next_u8()?;
+        let t = head.next_u8()?;
+        let faulty = head.next_u16()?;
+        let count = usize::from(head.next_u8()?);
         self.take_rows(count)?;
         let next = run::start(n, t, faulty, &self.rows[..count]);
         print_next(&mut self.text, b"start", next);
@@ -281,8 +322,9 @@ impl Desk {
 
     // An iteration.
     fn iteration(&mut self) -> Option<()> {
-        let run = next_state()?;
-        let count = next_length()?;
+        let mut head = self.head(STATE + 2)?;
+        let run = head.next_state()?;
+        let count = head.next_length()?;
         self.take_rows(count)?;
         let next = run.iterate(&self.rows[..count]);
         print_next(&mut self.text, b"iteration", next);
@@ -291,8 +333,9 @@ impl Desk {
 
     // The heading reader.
     fn heading(&mut self) -> Option<()> {
-        let size = usize::from(next_u8()?);
-        let room = usize::from(next_u8()?);
+        let mut head = self.head(2)?;
+        let size = usize::from(head.next_u8()?);
+        let room = usize::from(head.next_u8()?);
         fill(&mut self.bytes[..size])?;
         let lent = lend(&mut self.rows, room, as_row);
         let heading = runfile::read_heading(&self.bytes[..size], lent);
@@ -309,9 +352,10 @@ impl Desk {
 
     // The table reader.
     fn table(&mut self) -> Option<()> {
-        let n = next_u8()?;
-        let size = usize::from(next_u16()?);
-        let room = next_length()?;
+        let mut head = self.head(5)?;
+        let n = head.next_u8()?;
+        let size = usize::from(head.next_u16()?);
+        let room = head.next_length()?;
         fill(&mut self.bytes[..size])?;
         let lent = lend(&mut self.rows, room, as_row);
         let refusal = runfile::read_table(n, &self.bytes[..size], lent);
@@ -321,10 +365,11 @@ impl Desk {
 
     // The part reader.
     fn part(&mut self) -> Option<()> {
-        let from = next_usize()?;
-        let count = next_usize()?;
-        let size = usize::from(next_u16()?);
-        let room = next_length()?;
+        let mut head = self.head(20)?;
+        let from = head.next_usize()?;
+        let count = head.next_usize()?;
+        let size = usize::from(head.next_u16()?);
+        let room = head.next_length()?;
         fill(&mut self.bytes[..size])?;
         let lent = lend(&mut self.rows, room, as_row);
         let refusal = runfile::read_part(&self.bytes[..size], from, count, lent);
@@ -334,56 +379,65 @@ impl Desk {
 
     // The largest t.
     fn largest(&mut self) -> Option<()> {
-        let largest = sizes::largest_t(next_u8()?);
+        let largest = sizes::largest_t(self.head(1)?.next_u8()?);
         inout::print_line(&mut self.text, b"largest", &[u64::from(largest)]);
         Some(())
     }
 
     // The rows of a table.
     fn table_rows(&mut self) -> Option<()> {
-        let rows = sizes::table_rows(next_u8()?);
+        let rows = sizes::table_rows(self.head(1)?.next_u8()?);
         inout::print_line(&mut self.text, b"rows", &[rows as u64]);
         Some(())
     }
 
     // The test of sizes.
     fn sizes(&mut self) -> Option<()> {
-        let refusal = sizes::size_refusal(next_usize()?, next_u8()?);
+        let mut head = self.head(9)?;
+        let refusal = sizes::size_refusal(head.next_usize()?, head.next_u8()?);
         inout::print_line(&mut self.text, b"sizes", &[u64::from(refusal)]);
         Some(())
     }
 
     // The test of a member.
     fn member(&mut self) -> Option<()> {
-        let is_member = sizes::is_member(next_u16()?, next_usize()?);
+        let mut head = self.head(10)?;
+        let is_member = sizes::is_member(head.next_u16()?, head.next_usize()?);
         inout::print_line(&mut self.text, b"member", &[u64::from(is_member)]);
         Some(())
     }
 
     // The test of a stray bit.
     fn stray(&mut self) -> Option<()> {
-        let is_stray = sizes::is_stray(next_u8()?, next_u16()?);
+        let mut head = self.head(3)?;
+        let is_stray = sizes::is_stray(head.next_u8()?, head.next_u16()?);
         inout::print_line(&mut self.text, b"stray", &[u64::from(is_stray)]);
         Some(())
     }
 
     // The test of a sound zero.
     fn zero(&mut self) -> Option<()> {
-        let is_sound_zero = sizes::is_sound_zero(next_u16()?, next_usize()?, next_u64()?);
+        let mut head = self.head(18)?;
+        let is_sound_zero = sizes::is_sound_zero(
+            head.next_u16()?,
+            head.next_usize()?,
+            head.next_u64()?,
+        );
         inout::print_line(&mut self.text, b"zero", &[u64::from(is_sound_zero)]);
         Some(())
     }
 
     // Steps 1 to 4.
     fn steps(&mut self) -> Option<()> {
+        let mut head = self.head(143)?;
         let settings = Settings {
-            n: next_usize()?,
-            t: next_u8()?,
-            faulty: next_u16()?,
+            n: head.next_usize()?,
+            t: head.next_u8()?,
+            faulty: head.next_u16()?,
         };
-        let rows = next_thirteen(next_u64)?;
-        let lists = next_thirteen(next_u16)?;
-        let count = next_length()?;
+        let rows = thirteen(|| head.next_u64())?;
+        let lists = thirteen(|| head.next_u16())?;
+        let count = head.next_length()?;
         self.take_rows(count)?;
         let cast = gradecast::steps(settings, &rows, &lists, &self.rows[..count]);
         print_cast(&mut self.text, cast);
@@ -392,13 +446,13 @@ impl Desk {
 
     // One line, from a place on where one is given.
     fn line(&mut self, place: Option<usize>) -> Option<()> {
-        let room = next_length()?;
-        let size = usize::from(next_u8()?);
-        let count = usize::from(next_u8()?);
-        let mut bytes = [0u8; 255];
-        fill(&mut bytes[..size])?;
-        self.take_rows(count)?;
-        let word = &bytes[..size];
+        let mut head = self.head(4)?;
+        let room = head.next_length()?;
+        let size = usize::from(head.next_u8()?);
+        let count = usize::from(head.next_u8()?);
+        fill(&mut self.bytes[..size + 8 * count])?;
+        self.put_rows(size, count);
+        let word = &self.bytes[..size];
         let numbers = &self.rows[..count];
         let lent = lend(&mut self.lent, room, as_byte);
         match place {
@@ -417,8 +471,8 @@ impl Desk {
 
     // The listing of a run file.
     fn listing(&mut self) -> Option<()> {
-        let room = next_length()?;
-        let size = next_size()?;
+        let room = self.head(2)?.next_length()?;
+        let size = self.head(4)?.next_size()?;
         fill(&mut self.bytes[..size])?;
         let lent = lend(&mut self.lent, room, as_byte);
         let listed = listing::list(&self.bytes[..size], lent);
@@ -433,7 +487,7 @@ impl Desk {
 
     // The outcome of a run file.
     fn outcome(&mut self) -> Option<()> {
-        let size = next_size()?;
+        let size = self.head(4)?.next_size()?;
         fill(&mut self.bytes[..size])?;
         let outcome = listing::outcome(&self.bytes[..size]);
         print_next(&mut self.text, b"outcome", outcome);
@@ -449,15 +503,17 @@ impl Desk {
 
     // The confidence of a support.
     fn confidence(&mut self) -> Option<()> {
-        let confidence = tally::confidence_at(next_u8()?, next_u8()?);
+        let mut head = self.head(2)?;
+        let confidence = tally::confidence_at(head.next_u8()?, head.next_u8()?);
         inout::print_line(&mut self.text, b"confidence", &[u64::from(confidence)]);
         Some(())
     }
 
     // Why a box is listed.
     fn why(&mut self) -> Option<()> {
-        let run = next_state()?;
-        let why = run.why(next_u64()?, next_u64()?);
+        let mut head = self.head(STATE + 16)?;
+        let run = head.next_state()?;
+        let why = run.why(head.next_u64()?, head.next_u64()?);
         let reply = [
             u64::from(why.refusal),
             u64::from(why.reason.iteration),
@@ -472,7 +528,7 @@ impl Desk {
     // Stays: a kind is a number here and no enum, since it is read in this one place, and an enum
     // would list all kinds a second time.
     fn answer(&mut self) -> Option<()> {
-        match next_u8()? {
+        match self.head(1)?.next_u8()? {
             1 => self.vote(),
             2 => self.grade(),
             3 => self.choice(),
@@ -488,7 +544,10 @@ impl Desk {
             13 => self.zero(),
             14 => self.steps(),
             15 => self.line(None),
-            16 => self.line(Some(next_usize()?)),
+            16 => {
+                let at = self.head(8)?.next_usize()?;
+                self.line(Some(at))
+            }
             17 => self.part(),
             18 => self.listing(),
             19 => self.outcome(),

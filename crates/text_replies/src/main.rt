@@ -13,6 +13,9 @@ ghost use Rattle.std.specs.Prelude.{◌≡◌, ◌≤◌, length, IfSome};
 
 use making::Maker;
 
+// How many bytes a maker takes in the head of a request.
+const MAKER: usize = 23;
+
 // Fills the bytes with those that come next. Here and below: None where the request is cut short
 // or asks for too much.
 fn fill(bytes: &mut [u8]) -> Option<()> {
@@ -20,63 +23,71 @@ fn fill(bytes: &mut [u8]) -> Option<()> {
     (inout::fill(bytes, 0, size) == size).then_some(())
 }
 
-// The next N bytes.
-fn next_bytes<const N: usize>() -> Option<[u8; N]> {
-    let mut bytes = [0u8; N];
-    fill(&mut bytes)?;
-    Some(bytes)
+// The head of a request, which is read at once: the bytes whose numbers are still to be taken.
+#[derive(Drop)]
+struct Head<'a> {
+    left: &'a [u8],
 }
 
-// The number in the next byte.
-// Stays: a function for each width and no generic one, since a trait would have the same body for
-// each of them.
-fn next_u8() -> Option<u8> {
-    Some(u8::from_be_bytes(next_bytes()?))
-}
+impl Head<'_> {
+    // The next N bytes.
+    fn next_bytes<const N: usize>(&mut self) -> Option<[u8; N]> {
+        let (bytes, left) = self.left.split_first_chunk::<N>()?;
+        self.left = left;
+        Some(*bytes)
+    }
 
-// The number in the next two bytes. Here and below: most significant byte first.
-fn next_u16() -> Option<u16> {
-    Some(u16::from_be_bytes(next_bytes()?))
-}
+    // The number in the next byte.
+    // Stays: a function for each width and no generic one, since a trait would have the same body
+    // for each of them.
+    fn next_u8(&mut self) -> Option<u8> {
+        Some(u8::from_be_bytes(self.next_bytes()?))
+    }
 
-// The number in the next eight bytes.
-fn next_u64() -> Option<u64> {
-    Some(u64::from_be_bytes(next_bytes()?))
-}
+    // The number in the next two bytes. Here and below: most significant byte first.
+    fn next_u16(&mut self) -> Option<u16> {
+        Some(u16::from_be_bytes(self.next_bytes()?))
+    }
 
-// The number in the next eight bytes, as a length or a place.
-fn next_usize() -> Option<usize> {
-    Some(usize::from_be_bytes(next_bytes()?))
-}
+    // The number in the next eight bytes.
+    fn next_u64(&mut self) -> Option<u64> {
+        Some(u64::from_be_bytes(self.next_bytes()?))
+    }
 
-// The length in the next two bytes, which has a limit.
-fn next_length(limit: usize) -> Option<usize>
-    ensures { IfSome result (λ length. length ≤ limit) }
-{
-    let length = usize::from(next_u16()?);
-    (length <= limit).then_some(length)
-}
+    // The number in the next eight bytes, as a length or a place.
+    fn next_usize(&mut self) -> Option<usize> {
+        Some(usize::from_be_bytes(self.next_bytes()?))
+    }
 
-// The length in the next four bytes: of a run file or of its text.
-fn next_size() -> Option<usize>
-    ensures { IfSome result (λ size. size ≤ 200000) }
-{
-    let size = u32::from_be_bytes(next_bytes()?) as usize;
-    (size <= 200000).then_some(size)
-}
+    // The length in the next two bytes, which has a limit.
+    fn next_length(&mut self, limit: usize) -> Option<usize>
+        ensures { IfSome result (λ length. length ≤ limit) }
+    {
+        let length = usize::from(self.next_u16()?);
+        (length <= limit).then_some(length)
+    }
 
-// A maker.
-fn next_maker() -> Option<Maker> {
-    Some(Maker {
-        stage: next_u8()?,
-        n: next_u8()?,
-        t: next_u8()?,
-        faulty: next_u16()?,
-        lines: next_u64()?,
-        kept: next_usize()?,
-        refusal: next_u8()?,
-        fault: next_u8()?,
-    })
+    // The length in the next four bytes: of a run file or of its text.
+    fn next_size(&mut self) -> Option<usize>
+        ensures { IfSome result (λ size. size ≤ 200000) }
+    {
+        let size = u32::from_be_bytes(self.next_bytes()?) as usize;
+        (size <= 200000).then_some(size)
+    }
+
+    // A maker.
+    fn next_maker(&mut self) -> Option<Maker> {
+        Some(Maker {
+            stage: self.next_u8()?,
+            n: self.next_u8()?,
+            t: self.next_u8()?,
+            faulty: self.next_u16()?,
+            lines: self.next_u64()?,
+            kept: self.next_usize()?,
+            refusal: self.next_u8()?,
+            fault: self.next_u8()?,
+        })
+    }
 }
 
 // What a lent place holds, the first of them 1: a row.
@@ -171,6 +182,16 @@ struct Desk {
 }
 
 impl Desk {
+    // Reads the head of a request, so many bytes, in one call. A call for each number would take
+    // longer than many an answer.
+    fn head(&mut self, size: usize) -> Option<Head<'_>>
+        requires { size ≤ 200000 }
+    {
+        let bytes = &mut self.bytes[..size];
+        fill(bytes)?;
+        Some(Head { left: bytes })
+    }
+
     // Reads so many rows to the front of the rows, by way of the bytes.
     fn take_rows(&mut self, count: usize) -> Option<()>
         requires { count ≤ 5000 }
@@ -181,11 +202,12 @@ impl Desk {
 
     // The heading writer.
     fn heading(&mut self) -> Option<()> {
-        let n = next_u8()?;
-        let t = next_u8()?;
-        let faulty = next_u16()?;
-        let count = usize::from(next_u8()?);
-        let room = next_length(5000)?;
+        let mut head = self.head(7)?;
+        let n = head.next_u8()?;
+        let t = head.next_u8()?;
+        let faulty = head.next_u16()?;
+        let count = usize::from(head.next_u8()?);
+        let room = head.next_length(5000)?;
         self.take_rows(count)?;
         let lent = lend(&mut self.lent, room, as_byte);
         let wrote = runfile::write_heading(n, t, faulty, &self.rows[..count], lent);
@@ -196,9 +218,10 @@ impl Desk {
 
     // The table writer.
     fn table(&mut self) -> Option<()> {
-        let n = next_u8()?;
-        let count = next_length(5000)?;
-        let room = next_length(40000)?;
+        let mut head = self.head(5)?;
+        let n = head.next_u8()?;
+        let count = head.next_length(5000)?;
+        let room = head.next_length(40000)?;
         self.take_rows(count)?;
         let lent = lend(&mut self.lent, room, as_byte);
         let wrote = runfile::write_table(n, &self.rows[..count], lent);
@@ -209,8 +232,9 @@ impl Desk {
 
     // The line reader.
     fn read(&mut self) -> Option<()> {
-        let size = next_length(5000)?;
-        let room = next_length(5000)?;
+        let mut head = self.head(4)?;
+        let size = head.next_length(5000)?;
+        let room = head.next_length(5000)?;
         fill(&mut self.bytes[..size])?;
         let rows = lend(&mut self.rows, room, as_row);
         let words = lines::read_line(&self.bytes[..size], rows);
@@ -226,9 +250,10 @@ impl Desk {
 
     // The place of a line `say`.
     fn place(&mut self) -> Option<()> {
-        let n = next_u8()?;
-        let t = next_u8()?;
-        let count = usize::from(next_u8()?);
+        let mut head = self.head(3)?;
+        let n = head.next_u8()?;
+        let t = head.next_u8()?;
+        let count = usize::from(head.next_u8()?);
         self.take_rows(count)?;
         let place = says::place_of(n, t, &self.rows[..count]);
         let reply = [
@@ -242,11 +267,12 @@ impl Desk {
 
     // The line of a place.
     fn say(&mut self) -> Option<()> {
-        let n = next_u8()?;
-        let table = next_u8()?;
-        let place = next_u16()?;
-        let row = next_u64()?;
-        let room = next_length(5000)?;
+        let mut head = self.head(14)?;
+        let n = head.next_u8()?;
+        let table = head.next_u8()?;
+        let place = head.next_u16()?;
+        let row = head.next_u64()?;
+        let room = head.next_length(5000)?;
         let lent = lend(&mut self.lent, room, as_byte);
         let written = says::write_say(n, table, place, row, lent);
         let reply = [u64::from(written.refusal), written.size as u64];
@@ -256,10 +282,11 @@ impl Desk {
 
     // A text that is taken.
     fn taken(&mut self) -> Option<()> {
-        let maker = next_maker()?;
-        let size = next_length(5000)?;
-        let kept = next_length(5000)?;
-        let room = next_length(5000)?;
+        let mut head = self.head(MAKER + 6)?;
+        let maker = head.next_maker()?;
+        let size = head.next_length(5000)?;
+        let kept = head.next_length(5000)?;
+        let room = head.next_length(5000)?;
         fill(&mut self.bytes[..size])?;
         fill(&mut self.line[..kept])?;
         let lent = lend(&mut self.lent, room, as_byte);
@@ -274,9 +301,10 @@ impl Desk {
 
     // A text that is ended.
     fn ended(&mut self) -> Option<()> {
-        let maker = next_maker()?;
-        let kept = next_length(5000)?;
-        let room = next_length(5000)?;
+        let mut head = self.head(MAKER + 4)?;
+        let maker = head.next_maker()?;
+        let kept = head.next_length(5000)?;
+        let room = head.next_length(5000)?;
         fill(&mut self.line[..kept])?;
         let lent = lend(&mut self.lent, room, as_byte);
         let made = making::finish(maker, &self.line[..kept], lent);
@@ -292,10 +320,11 @@ impl Desk {
 
     // What is told.
     fn told(&mut self) -> Option<()> {
-        let refusal = next_u8()?;
-        let line = next_u64()?;
-        let fault = next_u8()?;
-        let room = next_length(5000)?;
+        let mut head = self.head(12)?;
+        let refusal = head.next_u8()?;
+        let line = head.next_u64()?;
+        let fault = head.next_u8()?;
+        let room = head.next_length(5000)?;
         let lent = lend(&mut self.lent, room, as_byte);
         let written = says::tell(refusal, line, fault, lent);
         let reply = [u64::from(written.refusal), written.size as u64];
@@ -305,9 +334,10 @@ impl Desk {
 
     // A part of the text that is shown of a file.
     fn shown(&mut self) -> Option<()> {
-        let part = next_usize()?;
-        let room = next_size()?;
-        let size = next_size()?;
+        let mut head = self.head(16)?;
+        let part = head.next_usize()?;
+        let room = head.next_size()?;
+        let size = head.next_size()?;
         fill(&mut self.bytes[..size])?;
         let lent = lend(&mut self.lent, room, as_byte);
         let shown = showing::show(&self.bytes[..size], part, lent);
@@ -328,9 +358,10 @@ impl Desk {
 
     // The row writer.
     fn row(&mut self) -> Option<()> {
-        let row = next_u64()?;
-        let at = next_usize()?;
-        let room = next_length(5000)?;
+        let mut head = self.head(18)?;
+        let row = head.next_u64()?;
+        let at = head.next_usize()?;
+        let room = head.next_length(5000)?;
         let lent = lend(&mut self.lent, room, as_byte);
         let refusal = runfile::write_row(row, at, lent);
         print_bytes(&mut self.text, b"row", &[u64::from(refusal)], lent);
@@ -339,15 +370,17 @@ impl Desk {
 
     // Where a table begins.
     fn begins(&mut self) -> Option<()> {
-        let begins = listing::table_begins(next_u8()?, next_u8()?);
+        let mut head = self.head(2)?;
+        let begins = listing::table_begins(head.next_u8()?, head.next_u8()?);
         inout::print_line(&mut self.text, b"begins", &[begins as u64]);
         Some(())
     }
 
     // Whether a text is settled.
     fn settled(&mut self) -> Option<()> {
-        let maker = next_maker()?;
-        let kept = next_length(5000)?;
+        let mut head = self.head(MAKER + 2)?;
+        let maker = head.next_maker()?;
+        let kept = head.next_length(5000)?;
         fill(&mut self.line[..kept])?;
         let is_settled = making::is_settled(maker, &self.line[..kept]);
         inout::print_line(&mut self.text, b"settled", &[u64::from(is_settled)]);
@@ -356,7 +389,7 @@ impl Desk {
 
     // A box number.
     fn number(&mut self) -> Option<()> {
-        let size = next_length(5000)?;
+        let size = self.head(2)?.next_length(5000)?;
         fill(&mut self.bytes[..size])?;
         let reply = number_numbers(&self.bytes[..size]);
         inout::print_line(&mut self.text, b"number", &reply);
@@ -365,10 +398,11 @@ impl Desk {
 
     // The line that says why.
     fn why(&mut self) -> Option<()> {
-        let asked = next_u64()?;
-        let listed = next_u64()?;
-        let room = next_length(5000)?;
-        let size = next_size()?;
+        let mut head = self.head(22)?;
+        let asked = head.next_u64()?;
+        let listed = head.next_u64()?;
+        let room = head.next_length(5000)?;
+        let size = head.next_size()?;
         fill(&mut self.bytes[..size])?;
         let lent = lend(&mut self.lent, room, as_byte);
         let answered = why::answer(&self.bytes[..size], asked, listed, lent);
@@ -385,7 +419,7 @@ impl Desk {
     // Stays: a kind is a number here and no enum, since it is read in this one place, and an enum
     // would list all kinds a second time.
     fn answer(&mut self) -> Option<()> {
-        match next_u8()? {
+        match self.head(1)?.next_u8()? {
             21 => self.heading(),
             22 => self.table(),
             23 => self.read(),

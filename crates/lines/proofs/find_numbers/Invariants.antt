@@ -1,11 +1,10 @@
--- The loop goes from part to part, and `count` numbers are passed, no more than parts. Assumes nothing.
-use Prim.Native.Nat.{◌≤◌}
-use lib.ListN.{length, drop}
-use Rattle.lines.proofs.Walk.{Reached, parts}
+-- The loop goes from part to part, and `count` numbers are passed. What is left of the line falls. Assumes nothing.
+use lib.ListN.{length}
+use Rattle.lines.proofs.Walk.{Left}
 use Rattle.lines.proofs.find_numbers.Given as goal
 
-abbrev pub invariant-loop-part : goal.invariant-loop-part
-invariant-loop-part l = record {
-  few : l.count ≤ length l.yielded;
-  reached : Reached l.line (drop (length l.yielded) (parts l.line l.word)) l.count;
-}
+abbrev pub invariant-loop-left : goal.invariant-loop-left
+invariant-loop-left l = Left l.line l.left l.count
+
+abbrev pub decreases-loop-left : goal.decreases-loop-left
+decreases-loop-left l = length l.left
