@@ -84,7 +84,7 @@ walk_begins text word e =
       };
     }
 
--- what is cut off a text from a place on, as a slice's part has it
+-- what is left of a text from a place on, as the contract of a slice's part gives it
 abbrev pub rest : List ℕ → ℕ → List ℕ
 rest text at = take (length text - at) (drop at text)
 
@@ -145,12 +145,13 @@ module _ {text part : List ℕ} {texts : List (List ℕ)} {count : ℕ} (r : Rea
       pub walk_turn : Reached text texts (count + 1)
       walk_turn = record { some = omega (arith, walk_one); left = passed.1.1; good = walk_still }
 
--- at the end all are passed, and all are numbers
+-- behind no space stands nothing
 behind_none : (left : List ℕ) → length left < 1 → behind left ≡ []
 unfolding behind
 behind_none [] l = refl
 behind_none (byte ∷ left) l = absurd (omega (arith, l))
 
+-- at the end all are passed, and all are numbers
 module _ {text left : List ℕ} {count : ℕ} (h : Left text left count) (l : length left < 1) where
   none : Reached text [] count
   none = subst (λ (texts : List (List ℕ)). Reached text texts count) (behind_none left l) h.reached

@@ -215,8 +215,8 @@ struct Piece {
 }
 
 // Reads the digits at the front of a text, where the number that they stand for is below 2⁶⁴. None at all are read as
-// 0. The first byte that is wrong ends the walk, however long the text is: so there is no `split` into parts, which
-// looks for the end of a part first.
+// 0. The first byte that is wrong ends the walk, however long the text is. Hence no `split`, which would look for the
+// end of a part first.
 fn read_piece(text: &[u8]) -> Option<Piece>
     ensures { MatchOption result (is_small (piece text.now) ≡ false)
         (λ found. (is_small (piece text.now) ≡ true) × (found.size ≡ length (piece text.now)) ×

@@ -183,24 +183,35 @@ fn byte_numbers<'a>(places: &'a mut [u64], bytes: &[u8]) -> &'a [u64]
     numbers
 }
 
-// Prints the numbers of a reply with the lent rows or the numbers of a state behind them. Here and
-// below: the second line begins where the newline of the first one stood, so that no array has to
-// hold the numbers of both.
-fn print_rows(text: &mut [u8], word: &[u8], reply: &[u64], lent: &[u64]) {
+// Prints so many bytes of the text.
+fn print_text(text: &[u8], size: usize) {
+    if let Some(told) = text.get(..size) {
+        io::write_all(inout::STANDARD_OUTPUT, told);
+    }
+}
+
+// Prints the numbers of a reply, at most five, with the lent rows or the numbers of a state behind
+// them. Here and below: the second line begins where the newline of the first one stood, so that no
+// array has to hold the numbers of both, and the text of a desk has room for both.
+fn print_rows(text: &mut [u8], word: &[u8], reply: &[u64], lent: &[u64])
+    requires { (length reply.now ≤ 5) × (length lent.now ≤ 5000) }
+{
     let front = lines::put_line(text, 0, word, reply).saturating_sub(1);
     let end = lines::put_line(text, front, b"", lent);
-    io::write_all(inout::STANDARD_OUTPUT, text.get(..end).unwrap_or(&[]));
+    print_text(text, end);
 }
 
 // Prints the numbers of a reply with the places of the lent bytes behind them.
-fn print_bytes(text: &mut [u8], word: &[u8], reply: &[u64], lent: &[u8]) {
+fn print_bytes(text: &mut [u8], word: &[u8], reply: &[u64], lent: &[u8])
+    requires { (length reply.now ≤ 5) × (length lent.now ≤ 5000) }
+{
     let mut numbers = [0u64; 1000];
     let mut end = lines::put_line(text, 0, word, reply);
     for piece in lent.chunks(1000) {
         let front = end.saturating_sub(1);
         end = lines::put_line(text, front, b"", byte_numbers(&mut numbers, piece));
     }
-    io::write_all(inout::STANDARD_OUTPUT, text.get(..end).unwrap_or(&[]));
+    print_text(text, end);
 }
 
 // Prints the refusal's number and the state.
