@@ -4,9 +4,9 @@
 // and prints every field of its reply and every place of what was lent to it. The rows of a
 // request are read by `runfile::read_part`, which `replies` tries.
 // Stays: what reads a request stands in `replies` too. Both could share it as public functions
-// alone, and no contract can say which bytes come (docs/DECISIONS.md, "Code"). `lend` and the two
-// functions that it is given stand there too: shared, those few lines would be a crate with
-// promises and edits of its own, for two programs that only the tests use.
+// alone, and no contract can say which bytes come (docs/DECISIONS.md, "Code"). What takes numbers
+// from a head, `lend` and the two functions that it is given stand there too: shared, those lines
+// would be a crate with promises and edits of its own, for two programs that only the tests use.
 #![tactic(auto)]
 
 ghost use Rattle.std.specs.Prelude.{◌≡◌, ◌≤◌, length, IfSome};
